@@ -1,0 +1,4 @@
+pub mod Decoded
+pub mod Passes
+pub mod Reading
+pub mod Verdict
