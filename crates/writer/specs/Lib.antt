@@ -1,0 +1,3 @@
+pub mod Putting
+pub mod RowFaults
+pub mod Writing

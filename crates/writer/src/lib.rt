@@ -1,0 +1,5 @@
+// Writing the sheet of rows.
+mod bits;
+mod put;
+mod rows_check;
+pub mod write;
