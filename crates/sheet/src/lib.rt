@@ -1,0 +1,3 @@
+// Checking a term sheet in both directions.
+pub mod checked;
+pub mod recheck;
