@@ -46,6 +46,7 @@ pub(crate) fn check_head(sheet: &[u8]) -> Result<Head, Fault>
 {
     let courses = check_start(sheet)?;
     let (rows, choices) = check_courses(sheet, courses)?;
+    // 9 bits come first, then 9 for each course and 8 for each choice.
     let bars = check_tail(sheet, &rows[0..courses], 9 + 9 * courses + 8 * choices)?;
     Ok(Head {
         rows,

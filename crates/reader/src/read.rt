@@ -56,6 +56,7 @@ pub fn read(
     } = head.counts;
     fill_courses(&head.rows[0..n], courses);
     fill_choices(sheet, &head.rows[0..n], choices);
+    // The bars stand after 9 bits, the courses, and the 12 bits of their number.
     fill_bars(sheet, 21 + 9 * n + 8 * t, m, bars);
     Ok(head.counts)
 }

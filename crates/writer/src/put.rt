@@ -131,6 +131,7 @@ pub(crate) fn put_sheet(
     put(out, 0, EDITION_WIDTH, EDITION);
     put(out, 4, COURSES_WIDTH, courses.len() as u16);
     put_courses(out, courses, choices);
+    // 9 bits come first, then 9 for each course and 8 for each choice.
     let at = 9 + 9 * courses.len() + 8 * choices.len();
     put(out, at, BARS_WIDTH, bars.len() as u16);
     put_bars(out, at + 12, bars);
