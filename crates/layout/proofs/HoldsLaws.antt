@@ -2,18 +2,18 @@
 use mathlib.Core.Bool.{cond}
 use mathlib.Core.List.{List, [], _∷_, _++_}
 use mathlib.Core.Logic.{⊎-elim}
-use mathlib.Core.Path.{_≡_, refl, sym, ap, subst, _∙_}
-use Prim.Native.Nat.{ℕ, zero, suc, _+_, _-_, _*_, _/_, _%_, _^_, _<_, _≤_}
+use mathlib.Core.Path.{_≡_, refl, sym, ap, _∙_}
+use Prim.Native.Nat.{ℕ, zero, suc, _+_, _-_, _/_, _%_, _^_, _<_, _≤_}
 use native.Mathlib.Omega.{arith}
-use native.Mathlib.Nat.{add-zero, add-assoc, sub-zero}
+use native.Mathlib.Nat.{add-zero, add-assoc}
 use lib.Dec.{ltb}
 use Rattle.std.specs.shelf.Lists.{All}
 use Rattle.std.proofs.shelf.Bits.{shr-shr}
 use Rattle.std.proofs.shelf.Tests.{cases-lt, cases-eq, cond-true, cond-false, lt-ltb, le-ltb}
 use Rattle.layout.specs.Bits.{bit, val}
-use Rattle.layout.specs.Held.{Holds}
+use Rattle.layout.specs.Held.{Holds, Fits}
 use Rattle.layout.specs.Layout.{Field, size, laid}
-use Rattle.layout.proofs.BitLaws.{bit-lt, val-ext, val-lt, front-more, front-none}
+use Rattle.layout.proofs.BitLaws.{bit-lt, val-ext, front-more, front-none}
 
 pub size-append : (fs gs : List Field) → size (fs ++ gs) ≡ size fs + size gs
 size-append [] gs = omega arith
@@ -60,10 +60,6 @@ bit-val s p w v (suc i) l h b =
     let more = front-more v w i (omega arith) in
     let e : w - (i + 1) ≡ w - suc i = omega arith in
     rw (← e) (omega (arith, bit-val s p w v i (omega arith) h b, b i (omega arith)))
-
--- each value fits its width
-abbrev pub Fits : Field → Type 0
-Fits f = f .1 < 2 ^ f .0
 
 laid-here : (f : Field) (fs : List Field) (j : ℕ) → j < f .0 → laid (f ∷ fs) j ≡ f .1 / 2 ^ (f .0 - 1 - j) % 2
 laid-here f fs j h = cond-true (ltb j (f .0)) _ _ (lt-ltb j (f .0) h)

@@ -1,8 +1,8 @@
 -- A sheet by its bits is a sheet by its fields.
-use mathlib.Core.List.{List, [], _∷_, _++_, map}
-use mathlib.Core.Logic.{inl, inr, ⊎-elim}
-use mathlib.Core.Path.{_≡_, refl, sym, ap, _∙_}
-use Prim.Native.Nat.{ℕ, zero, suc, _+_, _*_, _^_, _<_, _≤_}
+use mathlib.Core.List.{List, [], _∷_}
+use mathlib.Core.Logic.{⊎-elim}
+use mathlib.Core.Path.{_≡_, sym, ap, _∙_}
+use Prim.Native.Nat.{ℕ, zero, suc, _<_, _≤_}
 use native.Mathlib.Omega.{arith}
 use native.Mathlib.Nat.{zero-add}
 use lib.ListN.{length, getD, take, drop}
@@ -14,9 +14,9 @@ use Rattle.layout.specs.declared.rows.BarRow.{BarRow}
 use Rattle.layout.specs.declared.rows.ChoiceRow.{ChoiceRow}
 use Rattle.layout.specs.declared.rows.CourseRow.{CourseRow}
 use Rattle.layout.specs.Bits.{bit}
-use Rattle.layout.specs.Held.{Holds}
+use Rattle.layout.specs.Held.{Holds, Fits}
 use Rattle.layout.specs.Layout.{Field, size, choiceFields, courseFields, coursesFields, barFields, barsFields, layout, countsOf, bytesOf, LawfulCourse, LawfulChoice, LawfulBar, Lawful, IsSheet}
-use Rattle.layout.proofs.HoldsLaws.{Fits, holds-laid, laid-holds, laid-past}
+use Rattle.layout.proofs.HoldsLaws.{holds-laid, laid-holds, laid-past}
 
 -- a course with a choice is there, and has at most 8
 pub count-le : (cs : List CourseRow) (i : ℕ) → All LawfulCourse cs → getD (countsOf cs) i 0 ≤ 8
@@ -43,14 +43,17 @@ fits-courses (c ∷ cs) hs h l =
     let own : All Fits (courseFields c (take a hs)) = (omega (arith, h .0 .1), (omega (arith, h .0 .2), fits-choices (take a hs) (all-take LawfulChoice a hs l))) in
     all-append Fits (courseFields c (take a hs)) (coursesFields cs (drop a hs)) own (fits-courses cs (drop a hs) (h .1) (all-drop LawfulChoice a hs l))
 
-fits-bars : (cs : List CourseRow) (bs : List BarRow) → length cs ≤ 24 → All LawfulCourse cs → All (LawfulBar (countsOf cs)) bs → All Fits (joined barFields bs)
-fits-bars cs [] n l h = tt
-fits-bars cs (b ∷ bs) n l h =
-    let low = count-there cs (b .course) (b .choice) (h .0 .1) in
-    let high = count-there cs (b .higher) (b .partner) (h .0 .2) in
+pub fits-bar : (cs : List CourseRow) (b : BarRow) → length cs ≤ 24 → All LawfulCourse cs → LawfulBar (countsOf cs) b → All Fits (barFields b)
+fits-bar cs b n l h =
+    let low = count-there cs (b .course) (b .choice) (h .1) in
+    let high = count-there cs (b .higher) (b .partner) (h .2) in
     let few = count-le cs (b .course) l in
     let most = count-le cs (b .higher) l in
-    (omega arith, (omega (arith, h .0 .1), (omega arith, (omega (arith, h .0 .2), fits-bars cs bs n l (h .1)))))
+    (omega arith, (omega (arith, h .1), (omega arith, (omega (arith, h .2), tt))))
+
+fits-bars : (cs : List CourseRow) (bs : List BarRow) → length cs ≤ 24 → All LawfulCourse cs → All (LawfulBar (countsOf cs)) bs → All Fits (joined barFields bs)
+fits-bars cs [] n l h = tt
+fits-bars cs (b ∷ bs) n l h = all-append Fits (barFields b) (joined barFields bs) (fits-bar cs b n l (h .0)) (fits-bars cs bs n l (h .1))
 
 pub fits-layout : (cs : List CourseRow) (hs : List ChoiceRow) (bs : List BarRow) → Lawful cs hs bs → All Fits (layout cs hs bs)
 fits-layout cs hs bs h =

@@ -1,7 +1,7 @@
 -- Rows have one sheet, and a sheet has one set of rows.
 use mathlib.Core.List.{List, [], _∷_, _++_}
 use mathlib.Core.Path.{_≡_, refl, sym, ap, subst, _∙_}
-use Prim.Native.Nat.{ℕ, zero, suc, _+_, _-_, _*_, _/_, _%_, _^_, _<_, _≤_}
+use Prim.Native.Nat.{ℕ, zero, suc, _+_, _-_, _*_, _/_, _%_, _^_, _<_}
 use native.Mathlib.Omega.{arith}
 use native.Mathlib.Nat.{pow-suc}
 use lib.ListN.{length, getD, take, drop, take-append-drop}
@@ -14,7 +14,7 @@ use Rattle.layout.specs.declared.rows.ChoiceRow.{ChoiceRow}
 use Rattle.layout.specs.declared.rows.CourseRow.{CourseRow}
 use Rattle.layout.specs.Bits.{bit, Bytes}
 use Rattle.layout.specs.Held.{Holds}
-use Rattle.layout.specs.Layout.{size, choiceFields, courseFields, coursesFields, barFields, barsFields, LawfulCourse, total}
+use Rattle.layout.specs.Layout.{size, choiceFields, coursesFields, barFields, barsFields, LawfulCourse, total}
 use Rattle.layout.specs.Unique.{OneSheet, OneReading}
 use Rattle.layout.proofs.HoldsLaws.{holds-front, holds-back}
 use Rattle.layout.proofs.SizeLaws.{total-cons, size-choices, size-fields}

@@ -1,25 +1,23 @@
 -- The sheet of some rows has no fault.
-use mathlib.Core.Bool.{Bool, true, _&&_}
-use mathlib.Core.List.{List, [], _∷_, _++_}
+use mathlib.Core.List.{List, [], _∷_}
 use mathlib.Core.Path.{_≡_, refl, sym, ap, subst, _∙_}
 use Prim.Native.Nat.{ℕ, zero, suc, _+_, _-_, _*_, _/_, _<_, _≤_}
 use native.Mathlib.Omega.{arith}
 use native.Mathlib.Nat.{add-zero, zero-add}
-use native.Mathlib.Numerals.{add-one}
 use lib.Dec.{leb, ltb, eqb}
 use lib.ListN.{length, getD, take, drop}
 use Rattle.std.specs.Joined.{joined}
 use Rattle.std.specs.shelf.Lists.{All}
-use Rattle.std.specs.declared.option.Option.the-variants.{Some, None}
+use Rattle.std.specs.declared.option.Option.the-variants.{None}
 use Rattle.std.proofs.shelf.Elements.{all-take, all-drop, all-getD}
-use Rattle.std.proofs.shelf.Lists.{ext-getD, getD-map, length-take-le, length-drop}
-use Rattle.std.proofs.shelf.Tests.{le-leb, lt-ltb, eq-eqb, and-from}
-use Rattle.draft.specs.declared.refusal.Refusal.the-variants.{SheetEnds, Edition, Limit, Evening, BarName, BarOrder, Filling}
+use Rattle.std.proofs.shelf.Lists.{ext-getD, length-take-le, length-drop}
+use Rattle.std.proofs.shelf.Tests.{le-leb, eq-eqb, and-from}
+use Rattle.draft.specs.declared.refusal.Refusal.the-variants.{SheetEnds, Edition, Limit, Evening, Filling}
 use Rattle.layout.specs.declared.rows.BarRow.{BarRow}
 use Rattle.layout.specs.declared.rows.ChoiceRow.{ChoiceRow}
 use Rattle.layout.specs.declared.rows.CourseRow.{CourseRow}
 use Rattle.layout.specs.Bits.{bit, val}
-use Rattle.layout.specs.Faults.{first, unless, sound, above, prior, barFault}
+use Rattle.layout.specs.Faults.{first, unless, above, prior}
 use Rattle.layout.specs.Held.{Holds}
 use Rattle.layout.specs.Layout.{Field, size, choiceFields, courseFields, coursesFields, barFields, barsFields, layout, total, countsOf, numberOf, noBar, LawfulCourse, LawfulChoice, LawfulBar, Rising, IsSheet}
 use Rattle.layout.proofs.BarTests.{bar-clean, rises-above}
@@ -29,9 +27,9 @@ use Rattle.layout.proofs.HoldsLaws.{holds-front, holds-back}
 use Rattle.layout.proofs.SheetLaws.{sheet-holds, sheet-filled}
 use Rattle.layout.proofs.SizeLaws.{total-cons, size-choices, size-fields, size-layout}
 use Rattle.reader.specs.Decoded.{counts, courseAt, barAt, courseRows, label, place, courseCount, barsPlace, barCount}
-use Rattle.reader.specs.Verdict.{ends, editionFault, countFault, startFault, choiceFault, courseFault, coursesFault, nextFault, barsFault, bitsFault, fillFault, tailFault, verdict}
-use Rattle.reader.proofs.Places.{label-next}
-use Rattle.reader.proofs.RowLaws.{length-rowsOf, getD-rowsOf}
+use Rattle.reader.specs.Verdict.{ends, editionFault, startFault, choiceFault, courseFault, coursesFault, nextFault, barsFault, bitsFault, fillFault, verdict}
+use Rattle.reader.proofs.Places.{label-next, decoded-count}
+use Rattle.reader.proofs.RowLaws.{length-rowsOf}
 
 module _ (s : List ℕ) where
   in-bytes : (p w : ℕ) → p + w ≤ 8 * length s → ends s p w ≡ None
@@ -90,13 +88,10 @@ module _ (s : List ℕ) where
 
   counts-same : (n : ℕ) (cs : List CourseRow) → n ≡ length cs → ((i : ℕ) → i < length cs → val s (place s i) 3 + 1 ≡ getD (countsOf cs) i 0) → countsOf (courseRows s n) ≡ countsOf cs
   counts-same n cs e same =
-      let zero-row : CourseRow = record { teacher = 0; choices = 0 } in
       let l : length (courseRows s n) ≡ n = length-rowsOf (λ c. courseAt s (place s c)) n in
       ext-getD 0 (countsOf (courseRows s n)) (countsOf cs) (counts-length (courseRows s n) ∙ l ∙ e ∙ sym (counts-length cs)) (λ i h.
       let inside : i < n = omega (arith, counts-length (courseRows s n), l) in
-      getD-map (λ (c : CourseRow). c .choices) (courseRows s n) i zero-row 0 (omega arith)
-      ∙ ap (λ (c : CourseRow). c .choices) (getD-rowsOf (λ c. courseAt s (place s c)) n i zero-row inside)
-      ∙ same i (omega arith))
+      decoded-count s n i inside ∙ same i (omega arith))
 
   -- the bars of a list that the bytes hold
   bar-held : (q k : ℕ) (bs : List BarRow) → k < length bs → Holds s q (joined barFields bs) → barAt s (q + 16 * k) ≡ getD bs k noBar

@@ -1,34 +1,33 @@
 -- Where a sheet has no fault, its rows are lawful and it is their sheet.
-use mathlib.Core.Bool.{Bool, true, _&&_}
+use mathlib.Core.Bool.{true, _&&_}
 use mathlib.Core.List.{List, [], _∷_, _++_, append-assoc}
 use mathlib.Core.Logic.{⊎-elim}
 use mathlib.Core.Path.{_≡_, refl, sym, ap, subst, _∙_}
-use Prim.Native.Nat.{ℕ, zero, suc, _+_, _-_, _*_, _/_, _%_, _^_, _<_, _≤_}
+use Prim.Native.Nat.{ℕ, zero, suc, _+_, _-_, _*_, _/_, _<_, _≤_}
 use native.Mathlib.Omega.{arith}
-use native.Mathlib.Numerals.{add-one}
 use lib.Dec.{leb, ltb, eqb}
 use lib.ListN.{length, getD, take, drop}
 use Rattle.std.specs.Joined.{joined}
 use Rattle.std.specs.shelf.Lists.{All}
 use Rattle.std.specs.declared.option.Option.{Option}
-use Rattle.std.specs.declared.option.Option.the-variants.{Some, None}
+use Rattle.std.specs.declared.option.Option.the-variants.{None}
 use Rattle.std.proofs.shelf.Elements.{all-append}
 use Rattle.std.proofs.shelf.Lists.{append-nil, take-at, take-append-le, drop-append-le, length-drop, joined-more}
 use Rattle.std.proofs.shelf.Sums.{sumBy-push}
-use Rattle.std.proofs.shelf.Tests.{leb-true, ltb-true, eqb-true, and-parts, cases-lt}
+use Rattle.std.proofs.shelf.Tests.{leb-true, eqb-true, and-parts, cases-lt}
 use Rattle.draft.specs.declared.fault.Fault.{Fault}
-use Rattle.draft.specs.declared.refusal.Refusal.the-variants.{SheetEnds, Edition, Limit, Evening, BarName, BarOrder, Filling}
+use Rattle.draft.specs.declared.refusal.Refusal.the-variants.{Edition, Limit, Evening, Filling}
 use Rattle.layout.specs.declared.rows.BarRow.{BarRow}
 use Rattle.layout.specs.declared.rows.ChoiceRow.{ChoiceRow}
 use Rattle.layout.specs.declared.rows.CourseRow.{CourseRow}
 use Rattle.layout.specs.Bits.{bit, val}
-use Rattle.layout.specs.Faults.{first, firstOf, unless, sound, above, prior, barFault}
+use Rattle.layout.specs.Faults.{first, firstOf, unless, above, prior, barFault}
 use Rattle.layout.specs.Held.{Holds}
 use Rattle.layout.specs.Layout.{Field, size, choiceFields, courseFields, coursesFields, barFields, barsFields, layout, total, countsOf, numberOf, noBar, LawfulCourse, LawfulChoice, LawfulBar, Rising, Lawful, IsSheet}
 use Rattle.layout.proofs.BarTests.{bar-parts, above-rises}
 use Rattle.layout.proofs.BitLaws.{val-lt, bit-past}
 use Rattle.layout.proofs.FirstLaws.{first-none, firstOf-none, unless-none}
-use Rattle.layout.proofs.HoldsLaws.{size-append, holds-append}
+use Rattle.layout.proofs.HoldsLaws.{holds-append}
 use Rattle.layout.proofs.SheetLaws.{held-sheet}
 use Rattle.layout.proofs.SizeLaws.{total-cons, size-choices, size-bars, size-fields, size-layout}
 use Rattle.reader.specs.Decoded.{rowsOf, courseAt, choiceAt, barAt, courseRows, choiceRows, ownChoices, barRows, label, place, courseCount, barsPlace, barCount}

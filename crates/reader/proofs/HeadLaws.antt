@@ -1,12 +1,11 @@
 -- The parts of a sheet's verdict put together.
 use mathlib.Core.List.{List}
 use mathlib.Core.Path.{_≡_, refl, sym, ap, subst, _∙_}
-use Prim.Native.Nat.{ℕ, _+_, _-_, _*_, _<_, _≤_}
+use Prim.Native.Nat.{ℕ, _+_, _-_, _*_, _≤_}
 use native.Mathlib.Omega.{arith}
-use lib.ListN.{length, getD, take}
+use lib.ListN.{length, take}
 use Rattle.std.specs.declared.option.Option.{Option}
 use Rattle.std.specs.declared.option.Option.the-variants.{Some, None}
-use Rattle.std.proofs.shelf.Lists.{getD-map}
 use Rattle.draft.specs.Limits.{Limits}
 use Rattle.draft.specs.declared.fault.Fault.{Fault}
 use Rattle.layout.specs.declared.rows.CourseRow.{CourseRow}
@@ -18,7 +17,8 @@ use Rattle.reader.specs.declared.head.Head.{Head}
 use Rattle.reader.specs.Decoded.{courseAt, courseRows, courseCount, place, label, barsPlace, barCount}
 use Rattle.reader.specs.Passes.{Started, Courses, HeadOf}
 use Rattle.reader.specs.Verdict.{coursesFault, tailFault, verdict}
-use Rattle.reader.proofs.RowLaws.{length-rowsOf, getD-rowsOf}
+use Rattle.reader.proofs.Places.{decoded-count}
+use Rattle.reader.proofs.RowLaws.{length-rowsOf}
 
 -- decoded counts are within the limits
 pub rows-limits : (s : List ℕ) (n : ℕ) → 2 ≤ n → n ≤ 24 → Limits (countsOf (courseRows s n))
@@ -27,10 +27,7 @@ rows-limits s n few many =
       omega arith,
       omega arith,
       λ k h.
-          let inside : k < length (courseRows s n) = omega (arith, length-rowsOf (λ c. courseAt s (place s c)) n) in
-          let zero-row : CourseRow = record { teacher = 0; choices = 0 } in
-          let e : getD (countsOf (courseRows s n)) k 0 ≡ val s (place s k) 3 + 1 =
-          getD-map (λ (c : CourseRow). c .choices) (courseRows s n) k zero-row 0 inside ∙ ap (λ (c : CourseRow). c .choices) (getD-rowsOf (λ c. courseAt s (place s c)) n k zero-row (omega arith)) in
+          let e = decoded-count s n k (omega arith) in
           let three = val-lt s (place s k) 3 in
           (omega arith, omega arith),
     )

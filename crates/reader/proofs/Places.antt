@@ -7,13 +7,14 @@ use native.Mathlib.Omega.{arith}
 use native.Mathlib.Numerals.{add-one}
 use lib.Arith.{le-zero}
 use lib.ListN.{length, getD, set, take}
-use Rattle.std.proofs.shelf.Lists.{length-append, take-more-set}
+use Rattle.std.proofs.shelf.Lists.{length-append, take-more-set, getD-map}
 use Rattle.std.proofs.shelf.Tests.{cases-eq}
 use Rattle.std.specs.declared.option.Option.the-variants.{Some, None}
 use Rattle.draft.specs.declared.fault.Fault.{Fault}
 use Rattle.layout.specs.declared.rows.ChoiceRow.{ChoiceRow}
 use Rattle.layout.specs.declared.rows.CourseRow.{CourseRow}
 use Rattle.layout.specs.Bits.{val}
+use Rattle.layout.specs.Layout.{countsOf}
 use Rattle.layout.proofs.FirstLaws.{firstOf-more, firstOf-stop}
 use Rattle.reader.specs.Decoded.{label, place, courseAt, choiceAt, courseRows, choiceRows, ownChoices, rowsOf, written}
 use Rattle.reader.specs.Verdict.{courseFault, coursesFault}
@@ -33,6 +34,13 @@ courses-stop s k n p f h e a b = firstOf-stop _ k n f h a (subst (λ (q : ℕ). 
 
 pub courses-more : (s : List ℕ) (k p : ℕ) → p ≡ place s k → coursesFault s k ≡ None → courseFault s p ≡ None → coursesFault s (k + 1) ≡ None
 courses-more s k p e a b = firstOf-more _ k a (subst (λ (q : ℕ). courseFault s q ≡ None) e b)
+
+-- the counts of decoded rows
+pub decoded-count : (s : List ℕ) (n k : ℕ) → k < n → getD (countsOf (courseRows s n)) k 0 ≡ val s (place s k) 3 + 1
+decoded-count s n k h =
+    let none : CourseRow = record { teacher = 0; choices = 0 } in
+    let inside : k < length (courseRows s n) = omega (arith, length-rowsOf (λ c. courseAt s (place s c)) n) in
+    getD-map (λ (c : CourseRow). c .choices) (courseRows s n) k none 0 inside ∙ ap (λ (c : CourseRow). c .choices) (getD-rowsOf (λ c. courseAt s (place s c)) n k none h)
 
 -- the count of a course that a list of decoded rows has
 pub count-at : (s : List ℕ) (cs : List CourseRow) (c p : ℕ) → cs ≡ courseRows s (length cs) → c < length cs → p ≡ place s c → getD cs c (record { teacher = 0; choices = 0 }) .choices ≡ val s p 3 + 1

@@ -1,7 +1,7 @@
 // The second pass of a reading: the rows of a good sheet, written into the caller's lists.
 ghost use mathlib.Core.Path.{_≡_};
-ghost use Prim.Native.Nat.{ℕ, _+_, _*_, _^_, _<_, _≤_};
-ghost use lib.ListN.{length, take};
+ghost use Prim.Native.Nat.{_+_, _*_, _^_, _<_, _≤_};
+ghost use lib.ListN.{length};
 ghost use Rattle.reader.specs.Decoded.{rowsOf, choiceAt, courseRows, choiceRows, barRows, label, written};
 use crate::decode::bar_at;
 use crate::decode::choice_at;

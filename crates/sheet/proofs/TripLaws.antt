@@ -125,9 +125,6 @@ sheet-fault s room f e lc lh lb = rw e
 pub no-fault : (s : List ℕ) (lc lh lb lo : ℕ) → length s ≤ lo → readFault s lc lh lb ≡ None → recheckFault s lc lh lb lo ≡ None
 no-fault s lc lh lb lo room e = first-both (readFault s lc lh lb) _ e (unless-holds _ Memory 0 (le-leb (length s) lo room))
 
-pub read-fault : (s : List ℕ) (lc lh lb lo : ℕ) (f : Fault) → readFault s lc lh lb ≡ Some f → recheckFault s lc lh lb lo ≡ Some f
-read-fault s lc lh lb lo f e = rw e
-
 -- parts from the start of the lists
 pub sheet-parts : (s : List ℕ) (xs : List CourseRow) (ys : List ChoiceRow) (zs : List BarRow) (n t m : ℕ) → IsSheet s (take n xs) (take t ys) (take m zs) → IsSheet s (take (n - 0) xs) (take (t - 0) ys) (take (m - 0) zs)
 sheet-parts s xs ys zs n t m h = rw (sub-zero n, sub-zero t, sub-zero m) h

@@ -11,7 +11,7 @@ use Rattle.layout.specs.declared.rows.BarRow.{BarRow}
 use Rattle.layout.specs.declared.rows.ChoiceRow.{ChoiceRow}
 use Rattle.layout.specs.declared.rows.CourseRow.{CourseRow}
 use Rattle.layout.specs.Layout.{size, coursesFields, barFields, barsFields, layout, countsOf, LawfulBar, Lawful}
-use Rattle.layout.proofs.SheetLaws.{count-le, count-there}
+use Rattle.layout.proofs.SheetLaws.{fits-bar}
 use Rattle.layout.proofs.SizeLaws.{total-le, size-fields, size-layout}
 use Rattle.writer.specs.Putting.{FitBar, Puts}
 use Rattle.writer.proofs.PutLaws.{puts-more}
@@ -23,17 +23,8 @@ module _ (cs : List CourseRow) (hs : List ChoiceRow) (bs : List BarRow) (law : L
   pub sheet-size : size (layout cs hs bs) ≡ 21 + 9 * length cs + 8 * length hs + 16 * length bs
   sheet-size = size-layout cs hs bs (law .whole)
 
-  fit-bar : (b : BarRow) → LawfulBar (countsOf cs) b → FitBar b
-  fit-bar b l =
-      let many = law .many in
-      let low = count-there cs (b .course) (b .choice) (l .1) in
-      let high = count-there cs (b .higher) (b .partner) (l .2) in
-      let few = count-le cs (b .course) (law .courses) in
-      let most = count-le cs (b .higher) (law .courses) in
-      (omega arith, (omega (arith, l .1), (omega arith, (omega (arith, l .2), tt))))
-
   pub fit-bars : All FitBar bs
-  fit-bars = all-weaker (LawfulBar (countsOf cs)) FitBar fit-bar bs (law .names)
+  fit-bars = all-weaker (LawfulBar (countsOf cs)) FitBar (λ b l. fits-bar cs b (law .many) (law .courses) l) bs (law .names)
 
   -- edition, number of courses, courses, number of bars, bars
   pub puts-sheet : (s t u v w x : List ℕ) → Puts s t 0 ((4, 1) ∷ []) → Puts t u 4 ((5, length cs) ∷ []) → Puts u v 9 (coursesFields cs hs) → Puts v w (9 + 9 * length cs + 8 * length hs) ((12, length bs) ∷ []) → Puts w x (9 + 9 * length cs + 8 * length hs + 12) (joined barFields bs) → Puts s x 0 (layout cs hs bs)

@@ -1,9 +1,7 @@
-use mathlib.Core.List.{_∷_, []}
-use mathlib.Core.Path.{_≡_, sym, ap, _∙_}
+use mathlib.Core.Path.{_≡_, ap, _∙_}
 use Prim.Native.Nat.{ℕ}
 use native.Mathlib.Omega.{arith}
 use lib.ListN.{length, take}
-use Rattle.layout.specs.Layout.{countsOf}
 use Rattle.layout.proofs.CountLaws.{counts-more, counts-all}
 use Rattle.layout.proofs.shapes.count_table.Needs as need
 

@@ -1,12 +1,10 @@
-use mathlib.Core.Path.{refl, sym, ap, ap₂, subst, _∙_}
-use Prim.Native.Nat.{ℕ, _+_}
+use mathlib.Core.Path.{sym, ap, ap₂, subst, _∙_}
+use Prim.Native.Nat.{ℕ}
 use native.Mathlib.Omega.{arith}
-use lib.ListN.{length}
-use Rattle.layout.specs.declared.rows.Counts.{Counts}
 use Rattle.layout.specs.declared.rows.CourseRow.{CourseRow}
 use mathlib.Core.List.{List}
 use Rattle.reader.specs.Reading.{Filled}
-use Rattle.reader.specs.Decoded.{courseRows, choiceRows, barRows, label, written}
+use Rattle.reader.specs.Decoded.{choiceRows, barRows, label, written}
 use Rattle.reader.proofs.ReadLaws.{courses-is, choices-is, bars-is, few-choices, few-bars, part-is, part-long, part-own, place-is, filled}
 use Rattle.reader.proofs.read.read.Needs as need
 

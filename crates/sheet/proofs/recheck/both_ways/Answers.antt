@@ -1,7 +1,6 @@
 use native.Mathlib.Omega.{arith}
 use Rattle.layout.specs.Bits.{Bytes}
-use Rattle.std.proofs.shelf.Results.{err-from-errBy}
-use Rattle.sheet.proofs.TripLaws.{filled-room, no-fault, sheet-parts, agrees}
+use Rattle.sheet.proofs.TripLaws.{filled-room, sheet-parts, agrees}
 use Rattle.sheet.proofs.recheck.both_ways.Needs as need
 
 pub part-write-again-end : need.part-write-again-end
