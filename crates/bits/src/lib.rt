@@ -1,4 +1,6 @@
 // Single bits of bytes, most significant bit first.
+#![tactic(auto)]
+
 ghost use Rattle.std.specs.Prelude.{◌≡◌, ℕ, ◌/◌, ◌<◌, ◌≤◌, length, if◌then◌else◌, ◌≢◌, slice_index};
 ghost use Rattle.bits.specs.Bits.{bit};
 

@@ -1,4 +1,6 @@
 // Checks the term sheet in the file term.sheet and prints what it comes to.
+#![tactic(auto)]
+
 use anyhow::anyhow;
 use draft::fault::Fault;
 use layout::rows::{BarRow, ChoiceRow, CourseRow};

@@ -1,5 +1,7 @@
 // What every part of the planner speaks of: numbered refusals, faults, the shape of a draft, and the
 // store that keeps one.
+#![tactic(auto)]
+
 pub mod fault;
 pub mod labels;
 pub mod refusal;

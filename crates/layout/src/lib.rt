@@ -1,4 +1,6 @@
 // The term sheet's rows and the layout of their fields in bits.
+#![tactic(auto)]
+
 pub mod bars;
 pub mod choice;
 pub mod rows;

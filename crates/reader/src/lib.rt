@@ -1,4 +1,6 @@
 // Reading a sheet into the caller's lists.
+#![tactic(auto)]
+
 pub mod check;
 mod courses;
 mod decode;

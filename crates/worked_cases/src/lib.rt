@@ -1,4 +1,6 @@
 // Worked cases of the draft's parts and of the term sheet, run as tests.
+#![tactic(auto)]
+
 #[cfg(test)]
 mod bars;
 #[cfg(test)]

@@ -1,4 +1,6 @@
 // Worked cases of the three stores, run as tests.
+#![tactic(auto)]
+
 #[cfg(test)]
 mod packed;
 #[cfg(test)]

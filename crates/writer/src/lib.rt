@@ -1,4 +1,6 @@
 // Writing the sheet of rows.
+#![tactic(auto)]
+
 mod fields;
 mod put;
 mod rows_check;

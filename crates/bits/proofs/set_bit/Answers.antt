@@ -3,13 +3,13 @@ use Rattle.std.proofs.lemmas.List.{get_or-set_other}
 use Rattle.bits.proofs.OneBit.{taken, cleared, coded, made_byte, bit_set, bit_kept, byte_is, byte_below}
 use Rattle.bits.proofs.set_bit.Goals as goal
 
-pub overflow-sub-kept : goal.overflow-sub-kept
-overflow-sub-kept c =
+pub overflow_sub-kept : goal.overflow_sub-kept
+overflow_sub-kept c =
     let x = get_or c.args.bytes.now (c.args.k / 8) 0 in
     omega (arith, taken x (7 - c.args.k % 8), cleared x (7 - c.args.k % 8) 0 (omega arith) (omega arith) (omega arith))
 
-pub overflow-add-bytes : goal.overflow-add-bytes
-overflow-add-bytes c =
+pub overflow_add-bytes : goal.overflow_add-bytes
+overflow_add-bytes c =
     let x = get_or c.args.bytes.now (c.args.k / 8) 0 in
     let b : c.from.result < 2 = omega (arith, c.from.ensures, byte_below c.args.on) in
     omega (arith, coded x (7 - c.args.k % 8) c.from.result (omega arith) (omega arith) b, made_byte x (7 - c.args.k % 8) c.from.result (omega arith) (omega arith) b)

@@ -2,11 +2,11 @@ use Rattle.std.proofs.Common.{arith, rules}
 use Rattle.draft.proofs.ShapeLaws.{widest_within, widest_first}
 use Rattle.draft.proofs.labels.widest_label.Goals as goal
 
-pub overflow-mul-result : goal.overflow-mul-result
-overflow-mul-result c = let w = widest_within c.args.i c.args.b c.requires.choice in search rules
+pub overflow_mul-result : goal.overflow_mul-result
+overflow_mul-result c = let w = widest_within c.args.i c.args.b c.requires.choice in search rules
 
-pub overflow-add-result : goal.overflow-add-result
-overflow-add-result c = let w = widest_within c.args.i c.args.b c.requires.choice in search rules
+pub overflow_add-result : goal.overflow_add-result
+overflow_add-result c = let w = widest_within c.args.i c.args.b c.requires.choice in search rules
 
 pub returns : goal.returns
 returns c =

@@ -14,8 +14,8 @@ wrote firsts a i v l e below k h =
       | inr p ↦ get_or-set_other firsts i k v 0 p ∙ below k (omega arith)
     ]
 
-pub overflow-add-labels : goal.overflow-add-labels
-overflow-add-labels c =
+pub overflow_add-labels : goal.overflow_add-labels
+overflow_add-labels c =
     let a = c.args.a.now in
     let i = c.loop-i.i in
     let more = sum_more a i in

@@ -4,8 +4,8 @@ use Rattle.draft.proofs.PairLaws.{label_same}
 use Rattle.draft.proofs.ShapeLaws.{label_in, labels_most, limits}
 use Rattle.draft.proofs.shape.Shape.label_number.Goals as goal
 
-pub overflow-add-result : goal.overflow-add-result
-overflow-add-result c =
+pub overflow_add-result : goal.overflow_add-result
+overflow_add-result c =
     let s = c.args.self.now in
     let low = label_in (counts s) c.args.i c.args.b c.requires.choice in
     let most = labels_most (counts s) (limits s) in

@@ -3,11 +3,11 @@ use Rattle.draft.specs.Shapes.{counts}
 use Rattle.draft.proofs.PairLaws.{named_says, pair_below, pair_same}
 use Rattle.draft.proofs.shape.Shape.pair_number.Goals as goal
 
-pub label-number-requires : goal.label-number-requires
-label-number-requires c = record { choice = ((named_says (counts c.args.self.now) c.args.i c.args.b c.args.j c.args.c).0 c.requires.named).0 }
+pub label_number-requires : goal.label_number-requires
+label_number-requires c = record { choice = ((named_says (counts c.args.self.now) c.args.i c.args.b c.args.j c.args.c).0 c.requires.named).0 }
 
-pub label-number-requires-2 : goal.label-number-requires-2
-label-number-requires-2 c = record { choice = ((named_says (counts c.args.self.now) c.args.i c.args.b c.args.j c.args.c).0 c.requires.named).1.0 }
+pub label_number-requires-2 : goal.label_number-requires-2
+label_number-requires-2 c = record { choice = ((named_says (counts c.args.self.now) c.args.i c.args.b c.args.j c.args.c).0 c.requires.named).1.0 }
 
 pub returns : goal.returns
 returns c =
