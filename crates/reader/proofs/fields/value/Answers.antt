@@ -3,11 +3,11 @@ use Rattle.bits.specs.Bits.{val}
 use Rattle.bits.proofs.BitLaws.{room, val_more, bit_lt, val_lt}
 use Rattle.reader.proofs.fields.value.Goals as goal
 
-pub overflow-mul-v : goal.overflow-mul-v
-overflow-mul-v c = omega (arith, room c.args.sheet.now c.args.at c.loop-i.i (omega arith))
+pub overflow_mul-v : goal.overflow_mul-v
+overflow_mul-v c = omega (arith, room c.args.sheet.now c.args.at c.loop-i.i (omega arith))
 
-pub overflow-add-v : goal.overflow-add-v
-overflow-add-v c = omega (arith, room c.args.sheet.now c.args.at c.loop-i.i (omega arith), bit_lt c.args.sheet.now (c.args.at + c.loop-i.i))
+pub overflow_add-v : goal.overflow_add-v
+overflow_add-v c = omega (arith, room c.args.sheet.now c.args.at c.loop-i.i (omega arith), bit_lt c.args.sheet.now (c.args.at + c.loop-i.i))
 
 pub loop-i-preserved : goal.loop-i-preserved
 loop-i-preserved c = rw (val_more c.args.sheet.now c.args.at c.loop-i.i) (omega arith)

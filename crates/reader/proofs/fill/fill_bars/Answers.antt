@@ -8,5 +8,5 @@ loop-k-init c = written_none c.args.bars.now 0
 
 pub loop-k-preserved : goal.loop-k-preserved
 loop-k-preserved c =
-    ap (λ (i : ℕ). set c.loop-k.bars i c.bar-at.result) (sym (zero-add c.loop-k.k))
-    ∙ fill_more (λ k. bar_at c.args.sheet.now (c.args.at + 16 * k)) c.args.bars.now c.loop-k.bars 0 c.loop-k.k _ c.loop-k.invariant c.bar-at.ensures (omega arith)
+    ap (λ (i : ℕ). set c.loop-k.bars i c.bar_at.result) (sym (zero-add c.loop-k.k))
+    ∙ fill_more (λ k. bar_at c.args.sheet.now (c.args.at + 16 * k)) c.args.bars.now c.loop-k.bars 0 c.loop-k.k _ c.loop-k.invariant c.bar_at.ensures (omega arith)

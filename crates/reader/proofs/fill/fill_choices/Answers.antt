@@ -3,8 +3,8 @@ use Rattle.bits.proofs.BitLaws.{val_lt}
 use Rattle.reader.proofs.Places.{label_next, label_mono, count_at, choices_filled}
 use Rattle.reader.proofs.fill.fill_choices.Goals as goal
 
-pub fill-own-requires : goal.fill-own-requires
-fill-own-requires c =
+pub fill_own-requires : goal.fill_own-requires
+fill_own-requires c =
     let s = c.args.sheet.now in
     let cs = c.args.courses.now in
     let three = val_lt s c.loop-c.at 3 in
@@ -23,5 +23,5 @@ loop-c-preserved c =
       omega arith,
       omega arith,
       omega arith,
-      choices_filled s c.loop-c.c c.loop-c.at _ c.loop-c.invariant.0 count c.args.choices.now c.loop-c.choices _ c.loop-c.labels c.loop-c.invariant.1 c.loop-c.invariant.3 c.fill-own.ensures,
+      choices_filled s c.loop-c.c c.loop-c.at _ c.loop-c.invariant.0 count c.args.choices.now c.loop-c.choices _ c.loop-c.labels c.loop-c.invariant.1 c.loop-c.invariant.3 c.fill_own.ensures,
     )

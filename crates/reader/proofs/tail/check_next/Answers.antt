@@ -3,7 +3,7 @@ use Rattle.draft.specs.Shapes.{counts}
 use Rattle.reader.proofs.BarLaws.{next_fault_lem}
 use Rattle.reader.proofs.tail.check_next.Goals as goal
 
-pub returns-in-err-check-bar : goal.returns-in-err-check-bar
-returns-in-err-check-bar c =
-    let p = err_from_is_err_and c.from-residual-in-err-check-bar.result c.from-residual-in-err-check-bar.ensures.1 in
-    rw (p.1, p.2) (next_fault_lem c.args.sheet.now (counts c.args.shape.now) c.args.before c.args.at _ _ c.in-ok--bits.ensures.0 c.bar-at-bar.ensures c.in-err-check-bar.ensures.value)
+pub returns-in_err-check_bar : goal.returns-in_err-check_bar
+returns-in_err-check_bar c =
+    let p = err_from_is_err_and c.from_residual-in_err-check_bar.result c.from_residual-in_err-check_bar.ensures.1 in
+    rw (p.1, p.2) (next_fault_lem c.args.sheet.now (counts c.args.shape.now) c.args.before c.args.at _ _ c.in_ok-_bits.ensures.0 c.bar_at-bar.ensures c.in_err-check_bar.ensures.value)

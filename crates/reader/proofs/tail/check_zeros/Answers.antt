@@ -4,8 +4,8 @@ use Rattle.bits.specs.Bits.{bit}
 use Rattle.layout.proofs.FirstLaws.{first_of_more, first_of_stop}
 use Rattle.reader.proofs.tail.check_zeros.Goals as goal
 
-pub returns-then-bit-at-ne0 : goal.returns-then-bit-at-ne0
-returns-then-bit-at-ne0 c =
+pub returns-then-bit_at-ne0 : goal.returns-then-bit_at-ne0
+returns-then-bit_at-ne0 c =
     let odd : eqb (bit c.args.sheet.now (c.args.at + c.loop-k.k)) 0 ≡ false = ne_eqb _ 0 (λ e. omega arith) in
     first_of_stop _ c.loop-k.k c.args.count _ (omega arith) c.loop-k.invariant (cond-false _ _ _ odd)
 

@@ -6,7 +6,7 @@ use Rattle.sheet.proofs.recheck.recheck.Goals as goal
 pub returns-then-out-sheet : goal.returns-then-out-sheet
 returns-then-out-sheet c =
     record {
-      cases = record { fault = c.short-fault.ensures.value _ _ _; courses = refl; choices = refl; bars = refl; bytes = refl };
+      cases = record { fault = c.short_fault.ensures.value _ _ _; courses = refl; choices = refl; bars = refl; bytes = refl };
       reads_back = reads_back;
       writes_back = writes_back;
       one_sheet = one_sheet;
@@ -18,7 +18,7 @@ returns-then-out-sheet c =
 pub returns : goal.returns
 returns c =
     record {
-      cases = c.both-ways.ensures.cases;
+      cases = c.both_ways.ensures.cases;
       reads_back = reads_back;
       writes_back = writes_back;
       one_sheet = one_sheet;

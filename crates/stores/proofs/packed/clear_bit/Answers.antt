@@ -8,7 +8,7 @@ pub returns : goal.returns
 returns c =
     let xs = c.args.bits.now in
     let p = c.args.p in
-    let told = c.set-bit.ensures in
+    let told = c.set_bit.ensures in
     record {
       bits = record {
         size = search rules;

@@ -12,12 +12,12 @@ pub returns-then-courses : goal.returns-then-courses
 returns-then-courses c =
     record { value = no (λ f. c.if-courses.true (omega (arith, fit_length (counts c.args.shape.now) c.args.courses.now f))) }
 
-pub returns-then-not-row-fits : goal.returns-then-not-row-fits
-returns-then-not-row-fits c =
+pub returns-then-not-row_fits : goal.returns-then-not-row_fits
+returns-then-not-row_fits c =
     let a = counts c.args.shape.now in
     let fits : Fit a c.args.courses.now → ⊥ = λ f.
     let at = fit_at a c.args.courses.now c.loop-i.i c.loop-i-test.true f in
-    false≢true (c.if-not-row-fits.ensures.value.1 (at.0 ∙ sym c.choices.ensures.value, at.1)) in
+    false≢true (c.if-not-row_fits.ensures.value.1 (at.0 ∙ sym c.choices.ensures.value, at.1)) in
     record { value = no fits }
 
 pub returns : goal.returns

@@ -21,11 +21,11 @@ returns-in-Some g c =
     let done : Marked (mark_of (m.draft a.below.now) a.i a.b a.j a.c) a.marks.now c.mark.new.marks = rw (← e) c.mark.ensures.marks in
     record { marks = done; draft = what_if_strike (m.draft a.below.now) (m.laws a.below.now) _ _ a.i a.b a.j a.c done }
 
-pub returns-in-default : goal.returns-in-default
-returns-in-default g c =
+pub returns-in_default : goal.returns-in_default
+returns-in_default g c =
     let a = c.args in
     let m = g.S.Store in
     let xs = a.marks.now in
-    let e : None ≡ mark_of (m.draft a.below.now) a.i a.b a.j a.c = c.in-default.ensures.value in
+    let e : None ≡ mark_of (m.draft a.below.now) a.i a.b a.j a.c = c.in_default.ensures.value in
     let done : Marked (mark_of (m.draft a.below.now) a.i a.b a.j a.c) xs xs = rw (← e) (refl {a = xs}) in
     record { marks = done; draft = what_if_strike (m.draft a.below.now) (m.laws a.below.now) xs xs a.i a.b a.j a.c done }

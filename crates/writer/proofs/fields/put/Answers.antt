@@ -9,9 +9,9 @@ loop-i-init c = (front_none c.args.value c.args.width (omega arith), λ j h. ref
 
 pub loop-i-preserved : goal.loop-i-preserved
 loop-i-preserved c =
-    let told = c.set-bit.ensures in
-    let same : val c.set-bit.new.out c.args.at c.loop-i.i ≡ val c.loop-i.out c.args.at c.loop-i.i = val_ext _ _ _ _ (λ j a b. told.others j (omega arith)) in (
-      omega (arith, val_more c.set-bit.new.out c.args.at c.loop-i.i, front_more c.args.value c.args.width c.loop-i.i (omega arith)),
+    let told = c.set_bit.ensures in
+    let same : val c.set_bit.new.out c.args.at c.loop-i.i ≡ val c.loop-i.out c.args.at c.loop-i.i = val_ext _ _ _ _ (λ j a b. told.others j (omega arith)) in (
+      omega (arith, val_more c.set_bit.new.out c.args.at c.loop-i.i, front_more c.args.value c.args.width c.loop-i.i (omega arith)),
       λ j h. told.others j (omega arith) ∙ c.loop-i.invariant.1 j h,
       λ j h. told.others j (omega arith) ∙ c.loop-i.invariant.2 j (omega arith),
       λ k h. told.rest k (omega arith) ∙ c.loop-i.invariant.3 k (omega arith),

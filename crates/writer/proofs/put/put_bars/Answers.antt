@@ -8,13 +8,13 @@ use Rattle.writer.specs.Putting.{FitBar, Puts}
 use Rattle.writer.proofs.PutLaws.{puts_row}
 use Rattle.writer.proofs.put.put_bars.Goals as goal
 
-pub put-bar-requires : goal.put-bar-requires
-put-bar-requires c =
+pub put_bar-requires : goal.put_bar-requires
+put_bar-requires c =
     record { early = omega arith; fit = All-get_or FitBar c.args.bars.now c.loop-k.k no_bar (omega arith) c.requires.fit; inside = omega arith }
 
 pub loop-k-preserved : goal.loop-k-preserved
 loop-k-preserved c =
-    puts_row bar_fields 16 size_bars _ c.loop-k.out _ c.args.at c.loop-k.k c.args.bars.now no_bar (omega arith) c.loop-k.invariant c.put-bar.ensures
+    puts_row bar_fields 16 size_bars _ c.loop-k.out _ c.args.at c.loop-k.k c.args.bars.now no_bar (omega arith) c.loop-k.invariant c.put_bar.ensures
 
 pub returns : goal.returns
 returns c =

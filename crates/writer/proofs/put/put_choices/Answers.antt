@@ -15,11 +15,11 @@ loop-k-preserved c =
     let k = c.loop-k.k in
     let made = c.in-Ok.ensures in
     puts_row choice_fields 8 size_choices _ c.loop-k.out _ at k c.args.rows.now no_choice (omega arith) c.loop-k.invariant
-    (puts_pair _ _ (at + 8 * k) made.evening made.room c.put-choice.ensures)
+    (puts_pair _ _ (at + 8 * k) made.evening made.room c.put_choice.ensures)
 
-pub returns-in-default : goal.returns-in-default
-returns-in-default c =
-    absurd (never_refused _ _ (All-get_or LawfulChoice c.args.rows.now c.loop-k.k no_choice (omega arith) c.requires.lawful) c.in-default.ensures.test)
+pub returns-in_default : goal.returns-in_default
+returns-in_default c =
+    absurd (never_refused _ _ (All-get_or LawfulChoice c.args.rows.now c.loop-k.k no_choice (omega arith) c.requires.lawful) c.in_default.ensures.test)
 
 pub returns : goal.returns
 returns c =

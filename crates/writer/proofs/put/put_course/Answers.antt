@@ -8,4 +8,4 @@ returns c =
     let row = c.args.row.now in
     puts_more _ c.put-2.new.out _ at (at + 9) ((3, row.choices - 1) ∷ (6, row.teacher) ∷ []) _ (omega arith)
     (puts_more _ c.put.new.out _ at (at + 3) ((3, row.choices - 1) ∷ []) ((6, row.teacher) ∷ []) refl c.put.ensures c.put-2.ensures)
-    c.put-choices.ensures
+    c.put_choices.ensures

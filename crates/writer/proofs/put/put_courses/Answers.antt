@@ -8,12 +8,12 @@ use Rattle.writer.proofs.LabelLaws.{label_more, label_all}
 use Rattle.writer.proofs.PutCourses.{room, part_long, part_lawful, puts_course}
 use Rattle.writer.proofs.put.put_courses.Goals as goal
 
-pub slice-bounds-put-course-end : goal.slice-bounds-put-course-end
-slice-bounds-put-course-end c =
+pub slice_bounds-put_course-end : goal.slice_bounds-put_course-end
+slice_bounds-put_course-end c =
     room c.args.courses.now c.args.choices.now c.loop-c.c c.loop-c.from (omega arith) c.requires.whole c.loop-c.invariant.0
 
-pub put-course-requires : goal.put-course-requires
-put-course-requires c =
+pub put_course-requires : goal.put_course-requires
+put_course-requires c =
     let cs = c.args.courses.now in
     let hs = c.args.choices.now in
     let k = c.loop-c.c in
@@ -38,7 +38,7 @@ loop-c-preserved c =
     let more = label_more cs k (omega arith) in (
       omega arith,
       omega (arith, law.1),
-      puts_course cs hs k c.loop-c.from (omega arith) c.requires.whole c.loop-c.invariant.0 c.args.out.now c.loop-c.out c.put-course.new.out c.loop-c.invariant.2 c.put-course.ensures,
+      puts_course cs hs k c.loop-c.from (omega arith) c.requires.whole c.loop-c.invariant.0 c.args.out.now c.loop-c.out c.put_course.new.out c.loop-c.invariant.2 c.put_course.ensures,
     )
 
 pub returns : goal.returns
