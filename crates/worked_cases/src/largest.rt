@@ -96,8 +96,8 @@ fn comes_back(rt: &impl Abort, heap: Global, sheet: &[u8], bars: &[BarRow]) -> R
     assert_eq!(rt; read_courses[24], NO_COURSE);
     assert_eq!(rt; read_choices[192], NO_CHOICE);
     assert_eq!(rt; read_bars.pop(), Some(NO_BAR));
-    assert_eq!(rt; read_bars, bars);
-    assert_eq!(rt; out, sheet);
+    assert_eq!(rt; read_bars.as_slice(), bars);
+    assert_eq!(rt; out.as_slice(), sheet);
     Ok(())
 }
 
