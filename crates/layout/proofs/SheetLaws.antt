@@ -8,7 +8,7 @@ use Rattle.layout.specs.declared.rows.ChoiceRow.{ChoiceRow}
 use Rattle.layout.specs.declared.rows.CourseRow.{CourseRow}
 use Rattle.bits.specs.Bits.{bit}
 use Rattle.layout.specs.Held.{Holds, Fits}
-use Rattle.layout.specs.Layout.{Field, size, choice_fields, course_fields, courses_fields, bar_fields, bars_fields, layout, counts_of, bytes_of, LawfulCourse, LawfulChoice, LawfulBar, Lawful, IsSheet}
+use Rattle.layout.specs.Layout.{size, choice_fields, course_fields, courses_fields, bar_fields, bars_fields, layout, counts_of, bytes_of, LawfulCourse, LawfulChoice, LawfulBar, Lawful, IsSheet}
 use Rattle.layout.proofs.HoldsLaws.{holds_laid, laid_holds, laid_past}
 
 -- a course with a choice is there, and has at most 8

@@ -1,5 +1,5 @@
 -- The sheet of some rows has no fault.
-use Rattle.std.proofs.Common.{◌≡◌, ℕ, zero, suc, ◌+◌, ◌-◌, ◌*◌, ◌/◌, ◌<◌, ◌≤◌, eqb, ltb, leb, List, [], ◌∷◌, length, get_or, take, drop, None, sym, refl, ap, ◌∙◌, subst, add-zero, zero-add, arith}
+use Rattle.std.proofs.Common.{◌≡◌, ℕ, zero, suc, ◌+◌, ◌-◌, ◌*◌, ◌/◌, ◌<◌, ◌≤◌, eqb, leb, List, [], ◌∷◌, length, get_or, take, drop, None, sym, refl, ap, ◌∙◌, subst, add-zero, zero-add, arith}
 use Rattle.std.specs.List.{flat_map, AllByRecursion as All}
 use Rattle.std.proofs.ByRecursion.{All-take, All-drop, All-get_or}
 use Rattle.std.proofs.lemmas.List.{ext_get_or, length-take-le, length-drop}
@@ -9,9 +9,9 @@ use Rattle.layout.specs.declared.rows.BarRow.{BarRow}
 use Rattle.layout.specs.declared.rows.ChoiceRow.{ChoiceRow}
 use Rattle.layout.specs.declared.rows.CourseRow.{CourseRow}
 use Rattle.bits.specs.Bits.{bit, val}
-use Rattle.layout.specs.Faults.{first, unless, above, prior}
+use Rattle.layout.specs.Faults.{unless, prior}
 use Rattle.layout.specs.Held.{Holds}
-use Rattle.layout.specs.Layout.{Field, size, choice_fields, course_fields, courses_fields, bar_fields, bars_fields, layout, total, counts_of, number_of, no_bar, LawfulCourse, LawfulChoice, LawfulBar, Rising, IsSheet}
+use Rattle.layout.specs.Layout.{size, choice_fields, course_fields, courses_fields, bar_fields, bars_fields, layout, total, counts_of, number_of, no_bar, LawfulCourse, LawfulChoice, LawfulBar, Rising, IsSheet}
 use Rattle.layout.proofs.BarTests.{bar_clean, rises_above}
 use Rattle.layout.proofs.CountLaws.{counts_length}
 use Rattle.layout.proofs.FirstLaws.{first_both, first_of_each, unless_holds}

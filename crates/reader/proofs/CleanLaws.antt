@@ -1,5 +1,5 @@
 -- Where a sheet has no fault, its rows are lawful and it is their sheet.
-use Rattle.std.proofs.Common.{◌≡◌, ℕ, zero, suc, ◌+◌, ◌-◌, ◌*◌, ◌/◌, ◌<◌, ◌≤◌, true, ◌&&◌, eqb, ltb, leb, List, [], ◌∷◌, ◌++◌, length, get_or, take, drop, None, Option, sym, refl, ap, ◌∙◌, subst, ⊎_elim, append_assoc, arith}
+use Rattle.std.proofs.Common.{◌≡◌, ℕ, zero, suc, ◌+◌, ◌-◌, ◌*◌, ◌/◌, ◌<◌, ◌≤◌, true, ◌&&◌, eqb, leb, List, [], ◌∷◌, ◌++◌, length, get_or, take, drop, None, Option, sym, refl, ap, ◌∙◌, subst, ⊎_elim, append_assoc, arith}
 use Rattle.std.specs.List.{flat_map, AllByRecursion as All}
 use Rattle.std.proofs.ByRecursion.{All-append}
 use Rattle.std.proofs.lemmas.List.{append-nil, take_at, take-append-le, drop-append-le, length-drop, flat_map_more}
@@ -11,7 +11,7 @@ use Rattle.layout.specs.declared.rows.BarRow.{BarRow}
 use Rattle.layout.specs.declared.rows.ChoiceRow.{ChoiceRow}
 use Rattle.layout.specs.declared.rows.CourseRow.{CourseRow}
 use Rattle.bits.specs.Bits.{bit, val}
-use Rattle.layout.specs.Faults.{first, first_of, unless, above, prior, bar_fault}
+use Rattle.layout.specs.Faults.{first, unless, above, prior, bar_fault}
 use Rattle.layout.specs.Held.{Holds}
 use Rattle.layout.specs.Layout.{Field, size, choice_fields, course_fields, courses_fields, bar_fields, bars_fields, layout, total, counts_of, number_of, no_bar, LawfulCourse, LawfulChoice, LawfulBar, Rising, Lawful, IsSheet}
 use Rattle.layout.proofs.BarTests.{bar_parts, above_rises}

@@ -1,5 +1,5 @@
 -- The parts of a sheet's verdict put together.
-use Rattle.std.proofs.Common.{◌≡◌, ℕ, ◌+◌, ◌-◌, ◌*◌, ◌≤◌, List, length, take, Some, None, Option, sym, refl, ap, ◌∙◌, subst, arith}
+use Rattle.std.proofs.Common.{◌≡◌, ℕ, ◌+◌, ◌-◌, ◌*◌, ◌≤◌, List, length, take, Some, None, sym, ap, ◌∙◌, subst, arith}
 use Rattle.draft.specs.Limits.{Limits}
 use Rattle.draft.specs.declared.fault.Fault.{Fault}
 use Rattle.layout.specs.declared.rows.CourseRow.{CourseRow}
@@ -7,7 +7,6 @@ use Rattle.bits.specs.Bits.{val}
 use Rattle.layout.specs.Layout.{counts_of}
 use Rattle.bits.proofs.BitLaws.{val_lt}
 use Rattle.layout.proofs.CountLaws.{counts_length}
-use Rattle.reader.specs.declared.head.Head.{Head}
 use Rattle.reader.specs.Decoded.{course_at, course_rows, course_count, place, label, bars_place, bar_count}
 use Rattle.reader.specs.Passes.{Started, Courses, HeadOf}
 use Rattle.reader.specs.Verdict.{courses_fault, tail_fault, verdict}

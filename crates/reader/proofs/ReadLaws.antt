@@ -7,7 +7,6 @@ use Rattle.layout.specs.declared.rows.BarRow.{BarRow}
 use Rattle.layout.specs.declared.rows.ChoiceRow.{ChoiceRow}
 use Rattle.layout.specs.declared.rows.Counts.{Counts}
 use Rattle.layout.specs.declared.rows.CourseRow.{CourseRow}
-use Rattle.bits.specs.Bits.{val}
 use Rattle.bits.proofs.BitLaws.{val_lt}
 use Rattle.reader.specs.declared.head.Head.{Head}
 use Rattle.reader.specs.Decoded.{course_at, bar_at, course_rows, choice_rows, bar_rows, course_count, bars_place, bar_count, label, place, counts, written}

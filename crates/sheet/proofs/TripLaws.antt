@@ -1,5 +1,5 @@
 -- Reading and writing undo each other.
-use Rattle.std.proofs.Common.{◌≡◌, ℕ, ◌-◌, ◌<◌, ◌≤◌, Bool, true, false, ◌&&◌, leb, List, ◌++◌, length, get_or, take, drop, Some, None, Ok, Err, Decides, Option, Result, sym, refl, ap, ◌∙◌, subst, ⊎_elim, arith, take-append-drop}
+use Rattle.std.proofs.Common.{◌≡◌, ℕ, ◌-◌, ◌<◌, ◌≤◌, Bool, true, false, ◌&&◌, leb, List, ◌++◌, length, take, drop, Some, None, Ok, Err, Decides, Option, sym, refl, ap, ◌∙◌, subst, ⊎_elim, arith, take-append-drop}
 use native.Mathlib.Nat.{sub-zero}
 use Rattle.std.proofs.lemmas.List.{get_or-take, get_or_past, length-take}
 use Rattle.std.proofs.lemmas.Bool.{le-leb, lt-leb, leb-true, and_parts, cases_lt}
@@ -15,7 +15,7 @@ use Rattle.layout.specs.Faults.{first, unless}
 use Rattle.layout.specs.Layout.{IsSheet, bytes_of}
 use Rattle.layout.proofs.FirstLaws.{first_none, first_both, unless_none, unless_holds}
 use Rattle.layout.proofs.UniqueLaws.{one_sheet, one_reading}
-use Rattle.reader.specs.Decoded.{counts, course_count, label, bar_count}
+use Rattle.reader.specs.Decoded.{course_count, label, bar_count}
 use Rattle.reader.specs.Reading.{Reading}
 use Rattle.reader.specs.Verdict.{verdict, read_fault}
 use Rattle.reader.proofs.AcceptLaws.{sheet_clean}

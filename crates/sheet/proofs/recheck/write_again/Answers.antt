@@ -1,4 +1,4 @@
-use Rattle.std.proofs.Common.{◌≡◌, ℕ, ◌-◌, List, take, Decides, subst, arith}
+use Rattle.std.proofs.Common.{◌≡◌, ℕ, take, Decides, subst, arith}
 use native.Mathlib.Nat.{sub-zero}
 use Rattle.std.proofs.lemmas.Slice.Eq.{slice_eq-Decides}
 use Rattle.sheet.proofs.TripLaws.{room_to_write, long_enough}

@@ -1,4 +1,4 @@
-use Rattle.std.proofs.Common.{◌≡◌, ◌-◌, refl, ◌∙◌, arith}
+use Rattle.std.proofs.Common.{◌≡◌, refl, ◌∙◌, arith}
 use Rattle.bits.specs.Bits.{val}
 use Rattle.bits.proofs.BitLaws.{val_more, val_ext, front_more, front_none}
 use Rattle.writer.proofs.PutLaws.{puts_one, front_all}
