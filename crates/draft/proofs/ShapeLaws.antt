@@ -1,6 +1,6 @@
 -- What the limits of a shape say of its counts and its labels.
 use Rattle.std.proofs.Common.{◌≡◌, ℕ, zero, suc, ◌+◌, ◌-◌, ◌*◌, ◌<◌, ◌≤◌, List, length, get_or, take, sum, sym, refl, ap, ◌∙◌, inl, inr, add-one, arith}
-use Rattle.std.specs.List.{AllByRecursion as All}
+use Rattle.std.specs.List.{AllByRecursion}
 use Rattle.std.proofs.ByRecursion.{All-from_get_or, All-take, sum_by_le}
 use Rattle.std.proofs.lemmas.Simd.{get_or-replicate}
 use Rattle.std.proofs.lemmas.List.{get_or-take, get_or_past, length-take, length-take-le, take_all, take-take}
@@ -59,7 +59,7 @@ sum_mono a j k h = omega (arith, sum_by-take-le (λ x. x) (take k a) j, ap sum (
 -- k courses have at most 8 * k labels
 pub sum_most : (a : List ℕ) → Limits a → (k : ℕ) → sum (take k a) ≤ 8 * k
 sum_most a m k =
-    let each : All (λ x. x ≤ 8) a = All-from_get_or (λ x. x ≤ 8) a 0 (λ i h. (m.2 i h).1) in
+    let each : AllByRecursion (λ x. x ≤ 8) a = All-from_get_or (λ x. x ≤ 8) a 0 (λ i h. (m.2 i h).1) in
     omega (arith, sum_by_le (λ x. x) 8 (take k a) (All-take (λ x. x ≤ 8) k a each), length-take k a)
 
 -- there are at most 192 labels

@@ -1,6 +1,6 @@
 -- Fields one after another, and the bits that they fix.
 use Rattle.std.proofs.Common.{◌≡◌, ℕ, zero, suc, ◌+◌, ◌-◌, ◌/◌, ◌%◌, ◌^◌, ◌<◌, ◌≤◌, ltb, List, [], ◌∷◌, ◌++◌, sym, refl, ap, ◌∙◌, ⊎_elim, add-zero, add_assoc, arith}
-use Rattle.std.specs.List.{AllByRecursion as All}
+use Rattle.std.specs.List.{AllByRecursion}
 use Rattle.std.proofs.lemmas.Nat.{shr-shr}
 use Rattle.std.proofs.lemmas.Bool.{cases_lt, cases_eq, cond-true, cond-false, lt-ltb, le-ltb}
 use Rattle.bits.specs.Bits.{bit, val}
@@ -71,7 +71,7 @@ holds_laid s p (f ∷ fs) h j l =
     sym (ap (bit s) e) ∙ holds_laid s (p + f.0) fs h.1 (j - f.0) (omega arith) ∙ sym (laid_later f fs j ge))
     (cases_lt j f.0)
 
-pub laid_holds : (s : List ℕ) (p : ℕ) (fs : List Field) → All Fits fs → ((j : ℕ) → j < size fs → bit s (p + j) ≡ laid fs j) → Holds s p fs
+pub laid_holds : (s : List ℕ) (p : ℕ) (fs : List Field) → AllByRecursion Fits fs → ((j : ℕ) → j < size fs → bit s (p + j) ≡ laid fs j) → Holds s p fs
 laid_holds s p [] a h = tt
 laid_holds s p (f ∷ fs) a h =
     let w = f.0 in

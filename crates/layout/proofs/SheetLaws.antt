@@ -1,6 +1,6 @@
 -- A sheet by its bits is a sheet by its fields.
 use Rattle.std.proofs.Common.{◌≡◌, ℕ, zero, suc, ◌<◌, ◌≤◌, List, [], ◌∷◌, length, get_or, take, drop, sym, ap, ◌∙◌, ⊎_elim, zero-add, arith}
-use Rattle.std.specs.List.{flat_map, AllByRecursion as All}
+use Rattle.std.specs.List.{flat_map, AllByRecursion}
 use Rattle.std.proofs.ByRecursion.{All-take, All-drop, All-append}
 use Rattle.std.proofs.lemmas.Bool.{cases_lt}
 use Rattle.layout.specs.declared.rows.BarRow.{BarRow}
@@ -12,7 +12,7 @@ use Rattle.layout.specs.Layout.{size, choice_fields, course_fields, courses_fiel
 use Rattle.layout.proofs.HoldsLaws.{holds_laid, laid_holds, laid_past}
 
 -- a course with a choice is there, and has at most 8
-pub count_le : (cs : List CourseRow) (i : ℕ) → All LawfulCourse cs → get_or (counts_of cs) i 0 ≤ 8
+pub count_le : (cs : List CourseRow) (i : ℕ) → AllByRecursion LawfulCourse cs → get_or (counts_of cs) i 0 ≤ 8
 count_le [] zero h = omega arith
 count_le [] (suc i) h = omega arith
 count_le (c ∷ cs) zero h = h.0.1
@@ -25,18 +25,18 @@ count_there (c ∷ cs) zero b h = omega arith
 count_there (c ∷ cs) (suc i) b h = omega (arith, count_there cs i b h)
 
 -- lawful rows fit their fields
-fits_choices : (hs : List ChoiceRow) → All LawfulChoice hs → All Fits (flat_map choice_fields hs)
+fits_choices : (hs : List ChoiceRow) → AllByRecursion LawfulChoice hs → AllByRecursion Fits (flat_map choice_fields hs)
 fits_choices [] h = tt
 fits_choices (x ∷ hs) h = (omega (arith, h.0.0), (omega (arith, h.0.1), fits_choices hs h.1))
 
-fits_courses : (cs : List CourseRow) (hs : List ChoiceRow) → All LawfulCourse cs → All LawfulChoice hs → All Fits (courses_fields cs hs)
+fits_courses : (cs : List CourseRow) (hs : List ChoiceRow) → AllByRecursion LawfulCourse cs → AllByRecursion LawfulChoice hs → AllByRecursion Fits (courses_fields cs hs)
 fits_courses [] hs h l = tt
 fits_courses (c ∷ cs) hs h l =
     let a = c.choices in
-    let own : All Fits (course_fields c (take a hs)) = (omega (arith, h.0.1), (omega (arith, h.0.2), fits_choices (take a hs) (All-take LawfulChoice a hs l))) in
+    let own : AllByRecursion Fits (course_fields c (take a hs)) = (omega (arith, h.0.1), (omega (arith, h.0.2), fits_choices (take a hs) (All-take LawfulChoice a hs l))) in
     All-append Fits (course_fields c (take a hs)) (courses_fields cs (drop a hs)) own (fits_courses cs (drop a hs) h.1 (All-drop LawfulChoice a hs l))
 
-pub fits_bar : (cs : List CourseRow) (b : BarRow) → length cs ≤ 24 → All LawfulCourse cs → LawfulBar (counts_of cs) b → All Fits (bar_fields b)
+pub fits_bar : (cs : List CourseRow) (b : BarRow) → length cs ≤ 24 → AllByRecursion LawfulCourse cs → LawfulBar (counts_of cs) b → AllByRecursion Fits (bar_fields b)
 fits_bar cs b n l h =
     let low = count_there cs b.course b.choice h.1 in
     let high = count_there cs b.higher b.partner h.2 in
@@ -44,11 +44,11 @@ fits_bar cs b n l h =
     let most = count_le cs b.higher l in
     (omega arith, (omega (arith, h.1), (omega arith, (omega (arith, h.2), tt))))
 
-fits_bars : (cs : List CourseRow) (bs : List BarRow) → length cs ≤ 24 → All LawfulCourse cs → All (LawfulBar (counts_of cs)) bs → All Fits (flat_map bar_fields bs)
+fits_bars : (cs : List CourseRow) (bs : List BarRow) → length cs ≤ 24 → AllByRecursion LawfulCourse cs → AllByRecursion (LawfulBar (counts_of cs)) bs → AllByRecursion Fits (flat_map bar_fields bs)
 fits_bars cs [] n l h = tt
 fits_bars cs (b ∷ bs) n l h = All-append Fits (bar_fields b) (flat_map bar_fields bs) (fits_bar cs b n l h.0) (fits_bars cs bs n l h.1)
 
-pub fits_layout : (cs : List CourseRow) (hs : List ChoiceRow) (bs : List BarRow) → Lawful cs hs bs → All Fits (layout cs hs bs)
+pub fits_layout : (cs : List CourseRow) (hs : List ChoiceRow) (bs : List BarRow) → Lawful cs hs bs → AllByRecursion Fits (layout cs hs bs)
 fits_layout cs hs bs h =
     let many = h.many in
     let bars = h.bars in (

@@ -1,6 +1,6 @@
 -- How many bits the rows take.
 use Rattle.std.proofs.Common.{◌≡◌, ◌+◌, ◌*◌, ◌≤◌, List, [], ◌∷◌, length, take, drop, refl, arith}
-use Rattle.std.specs.List.{flat_map, AllByRecursion as All}
+use Rattle.std.specs.List.{flat_map, AllByRecursion}
 use Rattle.std.proofs.lemmas.List.{length-take-le, length-drop}
 use Rattle.std.proofs.lemmas.List.Sums.{sum_by-cons}
 use Rattle.layout.specs.declared.rows.BarRow.{BarRow}
@@ -12,7 +12,7 @@ use Rattle.layout.proofs.HoldsLaws.{size-append}
 pub total-cons : (c : CourseRow) (cs : List CourseRow) → total (c ∷ cs) ≡ c.choices + total cs
 total-cons c cs = sum_by-cons (λ (x : CourseRow). x.choices) c cs
 
-pub total_le : (cs : List CourseRow) → All LawfulCourse cs → total cs ≤ 8 * length cs
+pub total_le : (cs : List CourseRow) → AllByRecursion LawfulCourse cs → total cs ≤ 8 * length cs
 total_le [] h = omega arith
 total_le (c ∷ cs) h = omega (arith, total-cons c cs, total_le cs h.1, h.0.1)
 

@@ -1,6 +1,6 @@
 -- Rows have one sheet, and a sheet has one set of rows.
 use Rattle.std.proofs.Common.{◌≡◌, ℕ, zero, suc, ◌+◌, ◌-◌, ◌*◌, ◌/◌, ◌%◌, ◌^◌, ◌<◌, List, [], ◌∷◌, ◌++◌, length, get_or, take, drop, sym, refl, ap, ◌∙◌, subst, pow-suc, arith, take-append-drop}
-use Rattle.std.specs.List.{flat_map, AllByRecursion as All}
+use Rattle.std.specs.List.{flat_map, AllByRecursion}
 use Rattle.std.proofs.lemmas.Nat.{shr-shr}
 use Rattle.std.proofs.lemmas.List.{ext_get_or, nil_from_length, length-take-le, length-drop}
 use Rattle.layout.specs.declared.rows.BarRow.{BarRow}
@@ -58,7 +58,7 @@ same_bars s p (x ∷ bs) (y ∷ xs) e a b =
     let rest = same_bars s (p + 5 + 3 + 5 + 3) bs xs (omega arith) a.1.1.1.1 b.1.1.1.1 in
     λ i. record { course = course i; choice = choice i; higher = higher i; partner = partner i } ∷ rest i
 
-same_courses : (s : List ℕ) (p : ℕ) (cs ds : List CourseRow) (hs gs : List ChoiceRow) → length cs ≡ length ds → All LawfulCourse cs → All LawfulCourse ds → length hs ≡ total cs → length gs ≡ total ds → Holds s p (courses_fields cs hs) → Holds s p (courses_fields ds gs) → (cs ≡ ds) × (hs ≡ gs)
+same_courses : (s : List ℕ) (p : ℕ) (cs ds : List CourseRow) (hs gs : List ChoiceRow) → length cs ≡ length ds → AllByRecursion LawfulCourse cs → AllByRecursion LawfulCourse ds → length hs ≡ total cs → length gs ≡ total ds → Holds s p (courses_fields cs hs) → Holds s p (courses_fields ds gs) → (cs ≡ ds) × (hs ≡ gs)
 same_courses s p [] [] hs gs e l m u v a b = (refl, nil_from_length hs u ∙ sym (nil_from_length gs v))
 same_courses s p [] (d ∷ ds) hs gs e l m u v a b = absurd (omega arith)
 same_courses s p (c ∷ cs) [] hs gs e l m u v a b = absurd (omega arith)

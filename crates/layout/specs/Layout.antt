@@ -6,7 +6,7 @@
 --   Lawful cs hs bs     the rows have a sheet
 --   IsSheet s cs hs bs  the bytes s are that sheet
 use Rattle.std.specs.Prelude.{◌≡◌, ℕ, ◌+◌, ◌-◌, ◌*◌, ◌/◌, ◌%◌, ◌^◌, ◌<◌, ◌≤◌, cond, List, [], ◌∷◌, ◌++◌, map, length, take, drop, sum_by, nat_lt, slice_index, slice_index_or}
-use Rattle.std.specs.List.{flat_map, AllByRecursion as All}
+use Rattle.std.specs.List.{flat_map, AllByRecursion}
 use Rattle.layout.specs.declared.rows.BarRow.{BarRow}
 use Rattle.layout.specs.declared.rows.ChoiceRow.{ChoiceRow}
 use Rattle.layout.specs.declared.rows.CourseRow.{CourseRow}
@@ -87,9 +87,9 @@ pub record Lawful (cs : List CourseRow) (hs : List ChoiceRow) (bs : List BarRow)
   pub many : length cs ≤ 24
   pub whole : length hs ≡ total cs
   pub bars : length bs ≤ 4095
-  pub courses : All LawfulCourse cs
-  pub choices : All LawfulChoice hs
-  pub names : All (LawfulBar (counts_of cs)) bs
+  pub courses : AllByRecursion LawfulCourse cs
+  pub choices : AllByRecursion LawfulChoice hs
+  pub names : AllByRecursion (LawfulBar (counts_of cs)) bs
   pub rising : Rising bs
 
 -- the bytes that the sheet takes

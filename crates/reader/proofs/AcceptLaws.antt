@@ -1,6 +1,6 @@
 -- The sheet of some rows has no fault.
 use Rattle.std.proofs.Common.{◌≡◌, ℕ, zero, suc, ◌+◌, ◌-◌, ◌*◌, ◌/◌, ◌<◌, ◌≤◌, eqb, leb, List, [], ◌∷◌, length, get_or, take, drop, None, sym, refl, ap, ◌∙◌, subst, add-zero, zero-add, arith}
-use Rattle.std.specs.List.{flat_map, AllByRecursion as All}
+use Rattle.std.specs.List.{flat_map, AllByRecursion}
 use Rattle.std.proofs.ByRecursion.{All-take, All-drop, All-get_or}
 use Rattle.std.proofs.lemmas.List.{ext_get_or, length-take-le, length-drop}
 use Rattle.std.proofs.lemmas.Bool.{le-leb, eq-eqb, and_from}
@@ -28,7 +28,7 @@ module _ (s : List ℕ) where
   in_bytes p w h = unless_holds _ SheetEnds p (le-leb (p + w) (8 * length s) h)
 
   -- the choices of a list that the bytes hold
-  choice_ok : (p k : ℕ) (hs : List ChoiceRow) → k < length hs → Holds s p (flat_map choice_fields hs) → All LawfulChoice hs → p + 8 * length hs ≤ 8 * length s → choice_fault s (p + 8 * k) ≡ None
+  choice_ok : (p k : ℕ) (hs : List ChoiceRow) → k < length hs → Holds s p (flat_map choice_fields hs) → AllByRecursion LawfulChoice hs → p + 8 * length hs ≤ 8 * length s → choice_fault s (p + 8 * k) ≡ None
   choice_ok p k [] l h a m = absurd (omega arith)
   choice_ok p zero (x ∷ hs) l h a m =
       let e : p ≡ p + 8 * 0 = omega arith in
@@ -40,7 +40,7 @@ module _ (s : List ℕ) where
       subst (λ (q : ℕ). choice_fault s q ≡ None) e (choice_ok (p + 3 + 5) k hs (omega arith) h.1.1 a.1 (omega arith))
 
   -- a course that the bytes hold
-  course_ok : (p : ℕ) (c : CourseRow) (hs : List ChoiceRow) → length hs ≡ c.choices → Holds s p (course_fields c hs) → LawfulCourse c → All LawfulChoice hs → p + 9 + 8 * length hs ≤ 8 * length s → (course_fault s p ≡ None) × (val s p 3 + 1 ≡ c.choices)
+  course_ok : (p : ℕ) (c : CourseRow) (hs : List ChoiceRow) → length hs ≡ c.choices → Holds s p (course_fields c hs) → LawfulCourse c → AllByRecursion LawfulChoice hs → p + 9 + 8 * length hs ≤ 8 * length s → (course_fault s p ≡ None) × (val s p 3 + 1 ≡ c.choices)
   course_ok p c hs e h lc lh m =
       let n : val s p 3 + 1 ≡ c.choices = omega (arith, h.0, lc.0) in
       let nine : p + 3 + 6 ≡ p + 9 = omega arith in
@@ -59,7 +59,7 @@ module _ (s : List ℕ) where
       let e : k + 1 + i ≡ k + suc i = omega arith in
       subst (λ (x : ℕ). CourseGood x (get_or (counts_of cs) i 0)) e (b i (omega arith))
 
-  courses_ok : (k : ℕ) (cs : List CourseRow) (hs : List ChoiceRow) → Holds s (place s k) (courses_fields cs hs) → All LawfulCourse cs → All LawfulChoice hs → length hs ≡ total cs → place s k + 9 * length cs + 8 * length hs ≤ 8 * length s → ((i : ℕ) → i < length cs → CourseGood (k + i) (get_or (counts_of cs) i 0)) × (label s (k + length cs) ≡ label s k + length hs)
+  courses_ok : (k : ℕ) (cs : List CourseRow) (hs : List ChoiceRow) → Holds s (place s k) (courses_fields cs hs) → AllByRecursion LawfulCourse cs → AllByRecursion LawfulChoice hs → length hs ≡ total cs → place s k + 9 * length cs + 8 * length hs ≤ 8 * length s → ((i : ℕ) → i < length cs → CourseGood (k + i) (get_or (counts_of cs) i 0)) × (label s (k + length cs) ≡ label s k + length hs)
   courses_ok k [] hs h lc lh e m = (λ i l. absurd (omega arith), ap (label s) (add-zero k) ∙ omega (arith, e))
   courses_ok k (c ∷ cs) hs h lc lh e m =
       let a = c.choices in
@@ -101,7 +101,7 @@ module _ (s : List ℕ) where
       let e : q + 16 * suc k ≡ q + 5 + 3 + 5 + 3 + 16 * k = omega arith in
       ap (bar_at s) e ∙ bar_held (q + 5 + 3 + 5 + 3) k bs (omega arith) h.1.1.1.1
 
-  bar_ok : (a : List ℕ) (q k : ℕ) (bs : List BarRow) → k < length bs → Holds s q (flat_map bar_fields bs) → All (LawfulBar a) bs → Rising bs → q + 16 * length bs ≤ 8 * length s → next_fault s a (prior (λ i. bar_at s (q + 16 * i)) k) (q + 16 * k) ≡ None
+  bar_ok : (a : List ℕ) (q k : ℕ) (bs : List BarRow) → k < length bs → Holds s q (flat_map bar_fields bs) → AllByRecursion (LawfulBar a) bs → Rising bs → q + 16 * length bs ≤ 8 * length s → next_fault s a (prior (λ i. bar_at s (q + 16 * i)) k) (q + 16 * k) ≡ None
   bar_ok a q k bs l h names rising m =
       let bar : ℕ → BarRow = λ i. bar_at s (q + 16 * i) in
       let law : LawfulBar a (bar k) = subst (LawfulBar a) (sym (bar_held q k bs l h)) (All-get_or (LawfulBar a) bs k no_bar l names) in

@@ -1,6 +1,6 @@
 -- Where a sheet has no fault, its rows are lawful and it is their sheet.
 use Rattle.std.proofs.Common.{◌≡◌, ℕ, zero, suc, ◌+◌, ◌-◌, ◌*◌, ◌/◌, ◌<◌, ◌≤◌, true, ◌&&◌, eqb, leb, List, [], ◌∷◌, ◌++◌, length, get_or, take, drop, None, Option, sym, refl, ap, ◌∙◌, subst, ⊎_elim, append_assoc, arith}
-use Rattle.std.specs.List.{flat_map, AllByRecursion as All}
+use Rattle.std.specs.List.{flat_map, AllByRecursion}
 use Rattle.std.proofs.ByRecursion.{All-append}
 use Rattle.std.proofs.lemmas.List.{append-nil, take_at, take-append-le, drop-append-le, length-drop, flat_map_more}
 use Rattle.std.proofs.lemmas.List.Sums.{sum_by_push}
@@ -118,7 +118,7 @@ module _ (s : List ℕ) where
       let b = first_none (ends s (p + 3) 6) (choices_fault s (p + 9) (val s p 3 + 1)) a.1 in
       first_of_none (λ x. choice_fault s (p + 9 + 8 * x)) (val s p 3 + 1) b.1 k l
 
-  choices_lawful : (n : ℕ) → courses_fault s n ≡ None → All LawfulChoice (choice_rows s n)
+  choices_lawful : (n : ℕ) → courses_fault s n ≡ None → AllByRecursion LawfulChoice (choice_rows s n)
   choices_lawful zero h = tt
   choices_lawful (suc n) h =
       let a = first_none (courses_fault s n) (course_fault s (place s n)) h in
@@ -156,7 +156,7 @@ module _ (s a : List ℕ) (q m : ℕ) (clean : bars_fault s a q m ≡ None) wher
       let p = q + 16 * k in
       bar_parts a (prior bar k) (bar k) p (first_none (ends s p 16) (bar_fault a (prior bar k) (bar k) p) (one_clean k l)).1
 
-  pub bars_named : All (LawfulBar a) (bar_rows s q m)
+  pub bars_named : AllByRecursion (LawfulBar a) (bar_rows s q m)
   bars_named = All-rows_of (LawfulBar a) bar m (λ k l. (tests k l).0)
 
   pub bars_rising : Rising (bar_rows s q m)

@@ -1,6 +1,6 @@
 -- Rows made by a function of the index, and rows written into a list.
 use Rattle.std.proofs.Common.{◌≡◌, ℕ, zero, suc, ◌+◌, ◌<◌, List, [], ◌∷◌, ◌++◌, length, get_or, take, drop, set, sym, ap, ◌∙◌, subst, append_assoc, add-zero, add-one, arith, take-append-drop}
-use Rattle.std.specs.List.{AllByRecursion as All}
+use Rattle.std.specs.List.{AllByRecursion}
 use Rattle.std.proofs.lemmas.List.FromFn.{length-map-range_with_len, get_or-map-range_with_len, map-range_with_len_more}
 use Rattle.std.proofs.ByRecursion.{All-from_get_or}
 use Rattle.std.proofs.lemmas.List.{length-take-le, length-append, length_push, drop_more, set_at, take_at, drop_at, drop-drop}
@@ -19,7 +19,7 @@ rows_of_more f n = map-range_with_len_more f 0 n n (omega arith)
 pub rows_of_suc : {X : Type 0} (f : ℕ → X) (n : ℕ) → rows_of f (suc n) ≡ rows_of f n ++ (f n ∷ [])
 rows_of_suc f n = ap (rows_of f) (sym (add-one n)) ∙ rows_of_more f n
 
-pub All-rows_of : {X : Type 0} (P : X → Type 0) (f : ℕ → X) (n : ℕ) → ((k : ℕ) → k < n → P (f k)) → All P (rows_of f n)
+pub All-rows_of : {X : Type 0} (P : X → Type 0) (f : ℕ → X) (n : ℕ) → ((k : ℕ) → k < n → P (f k)) → AllByRecursion P (rows_of f n)
 All-rows_of P f zero h = tt
 All-rows_of P f (suc n) h =
     All-from_get_or P (rows_of f (suc n)) (f 0) (λ i l.

@@ -1,11 +1,21 @@
 // Fields of bits in bytes, most significant bit first.
 ghost use Rattle.std.specs.Prelude.{◌≡◌, ◌+◌, ◌/◌, ◌^◌, ◌<◌, ◌≤◌, Some, None, MatchResult};
-ghost use Rattle.bits.specs.Bits.{val};
+ghost use Rattle.bits.specs.Bits.{bit, val};
 ghost use Rattle.reader.specs.Verdict.{ends};
 
-use bits::bit_at;
 use draft::fault::Fault;
 use draft::refusal::Refusal;
+
+// Bit `k`, and 0 past the end.
+pub(crate) fn bit_at(sheet: &[u8], k: usize) -> u8
+    ensures { result ≡ bit sheet.now k }
+{
+    if k / 8 < sheet.len() {
+        (sheet[k / 8] >> (7 - k % 8)) % 2
+    } else {
+        0
+    }
+}
 
 // The number that the `width` bits from `at` on mean, with zeros past the end.
 pub(crate) fn value(sheet: &[u8], at: usize, width: u8) -> u16

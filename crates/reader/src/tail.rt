@@ -9,8 +9,7 @@ ghost use Rattle.reader.specs.Decoded.{bar_at};
 ghost use Rattle.reader.specs.Verdict.{next_fault, bars_fault, bits_fault, fill_fault, tail_fault};
 
 use crate::decode::bar_at;
-use crate::fields::field;
-use bits::bit_at;
+use crate::fields::{bit_at, field};
 use draft::fault::Fault;
 use draft::refusal::Refusal;
 use draft::shape::Shape;

@@ -1,6 +1,6 @@
 -- Course rows that fit a shape, row by row.
 use Rattle.std.proofs.Common.{◌≡◌, ℕ, ◌<◌, ◌≤◌, List, length, get_or, sym, ap, ◌∙◌, arith}
-use Rattle.std.specs.List.{AllByRecursion as All}
+use Rattle.std.specs.List.{AllByRecursion}
 use Rattle.std.proofs.ByRecursion.{All-get_or, All-from_get_or}
 use Rattle.std.proofs.lemmas.List.{ext_get_or, get_or-map}
 use Rattle.layout.specs.Layout.{counts_of}
@@ -10,7 +10,7 @@ use Rattle.stores.specs.Rules.{course_row}
 
 -- there is a course row for each course, with its choice count and a teacher of at most 63
 abbrev pub Fit : List ℕ → List CourseRow → Type 0
-Fit a cs = (counts_of cs ≡ a) × All (λ r. r.teacher ≤ 63) cs
+Fit a cs = (counts_of cs ≡ a) × AllByRecursion (λ r. r.teacher ≤ 63) cs
 
 -- row k has the choice count of course k and a teacher of at most 63
 abbrev pub FitsAt : List ℕ → List CourseRow → ℕ → Type 0

@@ -8,7 +8,7 @@
 --   Matches     the rows fit the shape
 --   RowsTold    what the opening answers
 use Rattle.std.specs.Prelude.{◌≡◌, ℕ, ◌<◌, ◌≤◌, Bool, not, ◌&&◌, ◌||◌, ◌⊎◌, List, length, take, is_some, Some, None, Ok, Err, sum, Result, ◌==◌, nat_lt, slice_index_or}
-use Rattle.std.specs.List.{AllByRecursion as All}
+use Rattle.std.specs.List.{AllByRecursion}
 use Rattle.draft.specs.Drafts.{Draft, whole, restrict}
 use Rattle.draft.specs.Labels.{label, pair_number}
 use Rattle.draft.specs.declared.refusal.Refusal.{Refusal}
@@ -64,16 +64,16 @@ pub record RuleFrame (s : Shape) (cs : List CourseRow) (hs : List ChoiceRow) (t 
 -- a course row for each course, with its choice count and a teacher of at most 63, and a choice row for each label
 pub record Matches (a : List ℕ) (courses : List CourseRow) (choices : List ChoiceRow) : Type 0 where
   pub counts : counts_of courses ≡ a
-  pub teachers : All (λ r. r.teacher ≤ 63) courses
+  pub teachers : AllByRecursion (λ r. r.teacher ≤ 63) courses
   pub labels : length choices ≡ sum a
 
 -- row k is the first that makes no record, and e is why
 pub record FirstRefused (choices : List ChoiceRow) (k : ℕ) (e : Refusal) : Type 0 where
   pub there : k < length choices
-  pub before : All (λ h. refusal_of h ≡ None) (take k choices)
+  pub before : AllByRecursion (λ h. refusal_of h ≡ None) (take k choices)
   pub refused : refusal_of (slice_index_or choices k record { evening = 0; room = 0 }) ≡ Some e
 
 -- rows that do not fit the shape are refused with 3, and else the first row that makes no record gives its refusal
 abbrev pub RowsTold : {U : Type 0} → List ℕ → List CourseRow → List ChoiceRow → Result U Refusal → Type 0
-RowsTold a courses choices (Ok _) = Matches a courses choices × All (λ h. refusal_of h ≡ None) choices
+RowsTold a courses choices (Ok _) = Matches a courses choices × AllByRecursion (λ h. refusal_of h ≡ None) choices
 RowsTold a courses choices (Err e) = ((Matches a courses choices → ⊥) × (e ≡ Limit)) ⊎ (Matches a courses choices × ((k : ℕ) × FirstRefused choices k e))

@@ -1,6 +1,6 @@
 // Whether course rows and choice rows fit a shape.
 ghost use Rattle.std.specs.Prelude.{◌≡◌, ℕ, ◌≤◌, None, Decides, MatchResult};
-ghost use Rattle.std.specs.List.{AllByRecursion as All};
+ghost use Rattle.std.specs.List.{AllByRecursion};
 ghost use Rattle.draft.specs.Shapes.{counts};
 ghost use Rattle.layout.specs.Layout.{counts_of};
 ghost use Rattle.layout.specs.Records.{refusal_of};
@@ -22,7 +22,7 @@ fn row_fits(row: &CourseRow, count: usize) -> bool
 
 // Whether there is a course row for each course, with its choice count and a teacher of at most 63.
 pub(crate) fn courses_fit(shape: &Shape, courses: &[CourseRow]) -> bool
-    ensures value { Decides result ((counts_of courses.now ≡ counts shape.now) × All (λ c. c.teacher ≤ 63) courses.now) }
+    ensures value { Decides result ((counts_of courses.now ≡ counts shape.now) × AllByRecursion (λ c. c.teacher ≤ 63) courses.now) }
 {
     if courses.len() != shape.courses() {
         return false;
@@ -37,7 +37,7 @@ pub(crate) fn courses_fit(shape: &Shape, courses: &[CourseRow]) -> bool
 
 // Refuses the first row that makes no record.
 pub(crate) fn check_records(choices: &[ChoiceRow]) -> Result<(), Refusal>
-    ensures cases { MatchResult result (λ _. All (λ h. refusal_of h ≡ None) choices.now) (λ e. (k : ℕ) × FirstRefused choices.now k e) }
+    ensures cases { MatchResult result (λ _. AllByRecursion (λ h. refusal_of h ≡ None) choices.now) (λ e. (k : ℕ) × FirstRefused choices.now k e) }
 {
     for row in choices {
         Choice::new(row)?;

@@ -1,6 +1,6 @@
 -- No fault of the bars, and what it says of them.
 use Rattle.std.proofs.Common.{◌≡◌, ℕ, ◌+◌, ◌*◌, ◌<◌, true, List, length, get_or, Some, None, Option, sym, ap, ◌∙◌}
-use Rattle.std.specs.List.{AllByRecursion as All}
+use Rattle.std.specs.List.{AllByRecursion}
 use Rattle.std.proofs.ByRecursion.{All-get_or, All-from_get_or}
 use Rattle.draft.specs.declared.fault.Fault.{Fault}
 use Rattle.layout.specs.declared.rows.BarRow.{BarRow}
@@ -29,13 +29,13 @@ module _ (a : List ℕ) (bs : List BarRow) (q : ℕ) where
     parts : (k : ℕ) → k < length bs → LawfulBar a (bar k) × (above (prior bar k) (bar k) ≡ true)
     parts k l = bar_parts a (prior bar k) (bar k) (q + 16 * k) (first_of_none test (length bs) none k l)
 
-    pub names_hold : All (LawfulBar a) bs
+    pub names_hold : AllByRecursion (LawfulBar a) bs
     names_hold = All-from_get_or (LawfulBar a) bs no_bar (λ k l. (parts k l).0)
 
     pub rising_holds : Rising bs
     rising_holds k l = above_rises bar k (parts (k + 1) l).1
 
-  pub hold_bars : All (LawfulBar a) bs → Rising bs → bars_fault a bs q (length bs) ≡ None
+  pub hold_bars : AllByRecursion (LawfulBar a) bs → Rising bs → bars_fault a bs q (length bs) ≡ None
   hold_bars names rising =
       first_of_each test (length bs) (λ k l.
       bar_clean a (prior bar k) (bar k) (q + 16 * k) (All-get_or (LawfulBar a) bs k no_bar l names) (rises_above bar (length bs) rising k l))

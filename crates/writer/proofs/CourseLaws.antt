@@ -1,6 +1,6 @@
 -- No fault of the courses, and what it says of them and of their choices.
 use Rattle.std.proofs.Common.{◌≡◌, ℕ, zero, suc, ◌+◌, ◌-◌, ◌*◌, ◌<◌, ◌≤◌, Bool, true, ◌&&◌, leb, List, length, get_or, None, Option, sym, ap, ◌∙◌, subst, ⊎_elim, add-one, arith}
-use Rattle.std.specs.List.{AllByRecursion as All}
+use Rattle.std.specs.List.{AllByRecursion}
 use Rattle.std.proofs.ByRecursion.{All-get_or, All-from_get_or}
 use Rattle.std.proofs.lemmas.Bool.{and_from, and_parts, cases_lt, le-leb, leb-true}
 use Rattle.draft.specs.declared.fault.Fault.{Fault}
@@ -61,7 +61,7 @@ module _ (cs : List CourseRow) (hs : List ChoiceRow) where
   each_holds : courses_fault cs hs (length cs) ≡ None → (c : ℕ) → c < length cs → LawfulCourse (get_or cs c no_course) × Own (get_or cs c no_course) hs (label cs c) (place cs c)
   each_holds none c l = course_holds (get_or cs c no_course) hs (label cs c) (place cs c) (first_of_none course_test (length cs) none c l)
 
-  pub courses_hold : courses_fault cs hs (length cs) ≡ None → All LawfulCourse cs
+  pub courses_hold : courses_fault cs hs (length cs) ≡ None → AllByRecursion LawfulCourse cs
   courses_hold none = All-from_get_or LawfulCourse cs no_course (λ c l. (each_holds none c l).0)
 
   -- the choices of the first n courses
@@ -77,12 +77,12 @@ module _ (cs : List CourseRow) (hs : List ChoiceRow) where
       subst (λ (j : ℕ). LawfulChoice (get_or hs j no_choice)) e ((each_holds none n (omega arith)).1 (i - t) (omega arith)))
       (cases_lt i t)
 
-  pub choices_hold : length hs ≡ total cs → courses_fault cs hs (length cs) ≡ None → All LawfulChoice hs
+  pub choices_hold : length hs ≡ total cs → courses_fault cs hs (length cs) ≡ None → AllByRecursion LawfulChoice hs
   choices_hold whole none =
       let all = label_all cs (length cs) (omega arith) in
       All-from_get_or LawfulChoice hs no_choice (λ i l. choices_below none (length cs) (omega arith) i (omega arith))
 
-  pub hold_courses : length hs ≡ total cs → All LawfulCourse cs → All LawfulChoice hs → courses_fault cs hs (length cs) ≡ None
+  pub hold_courses : length hs ≡ total cs → AllByRecursion LawfulCourse cs → AllByRecursion LawfulChoice hs → courses_fault cs hs (length cs) ≡ None
   hold_courses whole lc lh =
       first_of_each course_test (length cs) (λ c l.
       let own = own_inside cs c l in

@@ -1,6 +1,6 @@
 -- One course more in a writing.
 use Rattle.std.proofs.Common.{◌≡◌, ℕ, ◌+◌, ◌-◌, ◌*◌, ◌<◌, ◌≤◌, List, [], ◌∷◌, ◌++◌, length, get_or, take, drop, sym, ap, ◌∙◌, subst, append_assoc, arith, take-append-drop}
-use Rattle.std.specs.List.{AllByRecursion as All}
+use Rattle.std.specs.List.{AllByRecursion}
 use Rattle.std.proofs.ByRecursion.{All-take, All-drop}
 use Rattle.std.proofs.lemmas.List.{take_more, take-take, take_at, take-append-le, drop-take, drop-append-le, length-take-le, length-drop, append-nil}
 use Rattle.layout.specs.declared.rows.ChoiceRow.{ChoiceRow}
@@ -41,7 +41,7 @@ module _ (cs : List CourseRow) (hs : List ChoiceRow) (c t : ℕ) (inside : c < l
   pub part_long : length part ≡ row.choices
   part_long = let r = room in length-take-le (t + row.choices - t) (drop t hs) (omega (arith, length-drop t hs)) ∙ omega arith
 
-  pub part_lawful : All LawfulChoice hs → All LawfulChoice part
+  pub part_lawful : AllByRecursion LawfulChoice hs → AllByRecursion LawfulChoice part
   part_lawful h = All-take LawfulChoice (t + row.choices - t) (drop t hs) (All-drop LawfulChoice t hs h)
 
   joined_part : take (t + row.choices) hs ≡ take t hs ++ part

@@ -1,6 +1,6 @@
 -- Lawful rows fit their fields, and all fields put one after another are the layout.
 use Rattle.std.proofs.Common.{◌≡◌, ℕ, ◌+◌, ◌*◌, ◌≤◌, List, [], ◌∷◌, ◌++◌, length, refl, arith}
-use Rattle.std.specs.List.{flat_map, AllByRecursion as All}
+use Rattle.std.specs.List.{flat_map, AllByRecursion}
 use Rattle.std.proofs.ByRecursion.{All-weaker}
 use Rattle.layout.specs.declared.rows.BarRow.{BarRow}
 use Rattle.layout.specs.declared.rows.ChoiceRow.{ChoiceRow}
@@ -18,7 +18,7 @@ module _ (cs : List CourseRow) (hs : List ChoiceRow) (bs : List BarRow) (law : L
   pub sheet_size : size (layout cs hs bs) ≡ 21 + 9 * length cs + 8 * length hs + 16 * length bs
   sheet_size = size_layout cs hs bs law.whole
 
-  pub fit_bars : All FitBar bs
+  pub fit_bars : AllByRecursion FitBar bs
   fit_bars = All-weaker (LawfulBar (counts_of cs)) FitBar (λ b l. fits_bar cs b law.many law.courses l) bs law.names
 
   -- edition, number of courses, courses, number of bars, bars

@@ -1,6 +1,6 @@
 -- Fields put into bytes, and when their values fit.
 use Rattle.std.specs.Prelude.{◌≡◌, ℕ, ◌+◌, ◌*◌, ◌<◌, ◌≤◌, List, slice_index}
-use Rattle.std.specs.List.{AllByRecursion as All}
+use Rattle.std.specs.List.{AllByRecursion}
 use Rattle.layout.specs.declared.rows.BarRow.{BarRow}
 use Rattle.bits.specs.Bits.{bit}
 use Rattle.layout.specs.Held.{Holds, Fits}
@@ -8,7 +8,7 @@ use Rattle.layout.specs.Layout.{Field, size, bar_fields}
 
 -- each number of the bar fits its field
 abbrev pub FitBar : BarRow → Type 0
-FitBar b = All Fits (bar_fields b)
+FitBar b = AllByRecursion Fits (bar_fields b)
 
 -- t is s with these fields in the places from p on, and no other bit changed
 pub record Puts (s t : List ℕ) (p : ℕ) (fs : List Field) : Type 0 where

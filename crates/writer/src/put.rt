@@ -1,6 +1,6 @@
 // The fields of rows put into bytes.
 ghost use Rattle.std.specs.Prelude.{◌≡◌, ◌+◌, ◌*◌, ◌^◌, ◌<◌, ◌≤◌, [], ◌∷◌, length};
-ghost use Rattle.std.specs.List.{flat_map, AllByRecursion as All};
+ghost use Rattle.std.specs.List.{flat_map, AllByRecursion};
 ghost use Rattle.layout.specs.Layout.{size, choice_fields, course_fields, courses_fields, bar_fields, layout, total, LawfulCourse, LawfulChoice, Lawful};
 ghost use Rattle.writer.specs.Putting.{FitBar, Puts};
 
@@ -43,7 +43,7 @@ fn put_choice(out: &mut [u8], at: usize, choice: &Choice)
 fn put_choices(out: &mut [u8], at: usize, rows: &[ChoiceRow])
     requires early { at < 2 ^ 30 }
     requires many { length rows.now ≤ 8 }
-    requires lawful { All LawfulChoice rows.now }
+    requires lawful { AllByRecursion LawfulChoice rows.now }
     requires inside { at + 8 * length rows.now ≤ 8 * length out.old }
     ensures { Puts out.old out.new at (flat_map choice_fields rows.now) }
 {
@@ -60,7 +60,7 @@ fn put_course(out: &mut [u8], at: usize, row: &CourseRow, choices: &[ChoiceRow])
     requires early { at < 2 ^ 29 }
     requires own { length choices.now ≡ row.now.choices }
     requires course { LawfulCourse row.now }
-    requires lawful { All LawfulChoice choices.now }
+    requires lawful { AllByRecursion LawfulChoice choices.now }
     requires inside { at + 9 + 8 * length choices.now ≤ 8 * length out.old }
     ensures { Puts out.old out.new at (course_fields row.now choices.now) }
 {
@@ -73,8 +73,8 @@ fn put_course(out: &mut [u8], at: usize, row: &CourseRow, choices: &[ChoiceRow])
 fn put_courses(out: &mut [u8], courses: &[CourseRow], choices: &[ChoiceRow])
     requires many { length courses.now ≤ 24 }
     requires whole { length choices.now ≡ total courses.now }
-    requires courses { All LawfulCourse courses.now }
-    requires choices { All LawfulChoice choices.now }
+    requires courses { AllByRecursion LawfulCourse courses.now }
+    requires choices { AllByRecursion LawfulChoice choices.now }
     requires inside { 9 + 9 * length courses.now + 8 * length choices.now ≤ 8 * length out.old }
     ensures { Puts out.old out.new 9 (courses_fields courses.now choices.now) }
 {
@@ -103,7 +103,7 @@ fn put_bar(out: &mut [u8], at: usize, bar: &BarRow)
 fn put_bars(out: &mut [u8], at: usize, bars: &[BarRow])
     requires early { at < 2 ^ 30 }
     requires many { length bars.now ≤ 4095 }
-    requires fit { All FitBar bars.now }
+    requires fit { AllByRecursion FitBar bars.now }
     requires inside { at + 16 * length bars.now ≤ 8 * length out.old }
     ensures { Puts out.old out.new at (flat_map bar_fields bars.now) }
 {
