@@ -1,9 +1,9 @@
 -- The first fault among the tests of a sheet's fields.
 --
---   first a b         the fault that test a finds, else the one that test b finds
+--   first a b          the fault that test a finds, else the one that test b finds
 --   first_of t n       the first fault that the tests 0 to n - 1 find
---   unless ok e p     refusal e at bit p, unless ok
---   Tells fault r     r is refused with that fault, or accepted where there is none
+--   unless ok e p      refusal e at bit p, unless ok
+--   Tells fault r      r is refused with that fault, or accepted where there is none
 --   bar_fault a x b p  the fault of bar b at bit p after the bar x, with the choice counts a
 use Rattle.std.specs.Prelude.{◌≡◌, ℕ, zero, suc, Bool, true, cond, ◌&&◌, List, Some, None, Ok, Err, Option, Result, nat_lt, slice_index}
 use Rattle.draft.specs.declared.fault.Fault.{Fault}

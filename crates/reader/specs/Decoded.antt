@@ -1,10 +1,10 @@
 -- The rows that a sheet's bits mean, wherever they lie.
 --
 --   course_at s p    the course row that the bits from p on mean; choice_at and bar_at likewise
---   label s c       the number of choices of the courses before course c
---   place s c       the bit where course c begins
+--   label s c        the number of choices of the courses before course c
+--   place s c        the bit where course c begins
 --   course_rows s n  the rows of the first n courses; choice_rows and bar_rows likewise
---   counts s        the numbers of courses, choices and bars
+--   counts s         the numbers of courses, choices and bars
 use Rattle.std.specs.Prelude.{ℕ, zero, suc, ◌+◌, ◌*◌, List, [], ◌++◌, map, length, take, drop}
 use Rattle.std.specs.List.{range_with_len}
 use Rattle.layout.specs.declared.rows.BarRow.{BarRow}

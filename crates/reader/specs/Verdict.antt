@@ -1,9 +1,9 @@
 -- The faults of a sheet's fields, and the first of them.
 --
---   ends s p w        the fault of a sheet that ends inside the field of w bits at p
+--   ends s p w         the fault of a sheet that ends inside the field of w bits at p
 --   courses_fault s n  the first fault of the first n courses
 --   tail_fault s a q   the first fault from the number of bars, at bit q, to the end
---   verdict s         the first fault of the sheet s
+--   verdict s          the first fault of the sheet s
 --   read_fault s ..    that, or want of memory for its rows
 use Rattle.std.specs.Prelude.{ℕ, ◌+◌, ◌-◌, ◌*◌, ◌/◌, ◌&&◌, List, length, Option, ◌==◌, nat_le}
 use Rattle.draft.specs.declared.fault.Fault.{Fault}

@@ -1,7 +1,7 @@
 -- Packed: a draft in bytes, one bit for each pair number, most significant bit first.
 --
---   packed_draft   the pairings of the shape whose bit is 1
---   packed_bytes   how many bytes these bits take
+--   packed_draft  the pairings of the shape whose bit is 1
+--   packed_bytes  how many bytes these bits take
 --   Cleared       a pairing's bit is 0, and every other bit is as it was
 --   Spare         no pairing has that bit
 --   PackedFrame   what strikes leave: the shape, the loan, every spare bit, every byte past the bits

@@ -3,7 +3,7 @@
 --   clash       two choices clash: one evening, and one room or one teacher
 --   known       a choice's course row and choice row are there, and the choice row makes a record
 --   allowed     both choices are known and do not clash
---   rule_draft   the allowed pairings that have no mark
+--   rule_draft  the allowed pairings that have no mark
 --   RuleFrame   what strikes leave: the shape and both lists of rows
 --   Matches     the rows fit the shape
 --   RowsTold    what the opening answers

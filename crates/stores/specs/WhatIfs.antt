@@ -1,7 +1,7 @@
 -- What-if: marks over the draft of any store.
 --
---   what_if   what stands below and has no mark
---   mark_of   where the mark of a pairing lies
+--   what_if  what stands below and has no mark
+--   mark_of  where the mark of a pairing lies
 use Rattle.std.specs.Prelude.{ℕ, cond, ◌&&◌, List, None, Option, nat_lt}
 use Rattle.draft.specs.Drafts.{Draft}
 use Rattle.draft.specs.Labels.{pair_number, pair_of, widest}
