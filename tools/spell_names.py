@@ -151,7 +151,9 @@ label-le label_le
 label-mono label_mono
 label-more label_more
 label-next label_next
+label-some label_some
 labels-differ labels_differ
+labels-least labels_least
 labels-most labels_most
 laid-here laid_here
 laid-holds laid_holds

@@ -3,7 +3,7 @@ use Rattle.std.proofs.Common.{◌≡◌, ℕ, zero, suc, ◌+◌, ◌-◌, ◌*�
 use native.Mathlib.Decide.{le_ind}
 use Rattle.std.proofs.lemmas.Bool.{cases_Bool, cases_lt, cases_eq, cases_order, cond-true, cond-false, eq-eqb, ne_eqb, lt-ltb, le-ltb}
 use Rattle.std.proofs.lemmas.Bool.Decides.{Decides-and, Decides-or, Decides-not, Decides-like, Decides-eqb, Decides-ltb, same_from_decides}
-use Rattle.draft.specs.Labels.{label, named, same, pairs_among, ordered, between, pair_number, pair_of, pair_count}
+use Rattle.draft.specs.Labels.{label, label_of, named, same, pairs_among, ordered, between, pair_number, pair_of, pair_count}
 use Rattle.draft.specs.Shapes.{counts}
 use Rattle.draft.specs.declared.shape.Shape.{Shape}
 use Rattle.draft.proofs.ShapeLaws.{label_below, label_in, labels_most, limits}
@@ -15,6 +15,14 @@ label_same a i b j c hb hc e =
       | inl p ↦ (p, let q : sum (take i a) ≡ sum (take j a) = ap (λ n. sum (take n a)) p in omega arith)
       | inr (inl l) ↦ absurd (omega (arith, label_below a i b j l hb))
       | inr (inr l) ↦ absurd (omega (arith, label_below a j c i l hc))
+    ]
+
+-- an answered label is that of a choice
+pub label_some : (a : List ℕ) (i b u : ℕ) → Some u ≡ label_of a i b → (b < get_or a i 0) × (u ≡ label a i b)
+label_some a i b u e =
+    elim (cases_lt b (get_or a i 0)) [
+      | inl l ↦ (l, let f : Some u ≡ Some (label a i b) = e ∙ cond-true (ltb b (get_or a i 0)) _ _ (lt-ltb b (get_or a i 0) l) in cc)
+      | inr l ↦ absurd (let f : Some u ≡ None = e ∙ cond-false (ltb b (get_or a i 0)) _ _ (le-ltb b (get_or a i 0) l) in let z : ◌≡◌ {A = ℕ} 0 1 = cc in omega arith)
     ]
 
 -- a label more makes a pair with each of v labels

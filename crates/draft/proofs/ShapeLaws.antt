@@ -66,6 +66,13 @@ sum_most a m k =
 pub labels_most : (a : List ℕ) → Limits a → sum a ≤ 192
 labels_most a m = omega (arith, m.1, sum_most a m (length a), ap sum (take_all (length a) a (omega arith)))
 
+-- there are at least 2 labels
+pub labels_least : (a : List ℕ) → Limits a → 2 ≤ sum a
+labels_least a m =
+    let one : sum (take 1 a) ≡ sum (take 0 a) + get_or a 0 0 = sum_more a 0 in
+    let two : sum (take 2 a) ≡ sum (take 1 a) + get_or a 1 0 = sum_more a 1 in
+    omega (arith, m.0, one, two, (m.2 0 (omega (arith, m.0))).0, (m.2 1 (omega (arith, m.0))).0, sum_by-take-le (λ x. x) a 2)
+
 -- the labels of a course stand below the first label of a later one
 pub label_below : (a : List ℕ) (i b j : ℕ) → i < j → b < get_or a i 0 → label a i b < sum (take j a)
 label_below a i b j h l = omega (arith, sum_more a i, sum_mono a (i + 1) j (omega arith))
