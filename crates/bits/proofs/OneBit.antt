@@ -1,5 +1,5 @@
 -- One bit of a number changed, the others kept.
-use Rattle.std.proofs.Common.{◌≡◌, ℕ, zero, suc, ◌+◌, ◌-◌, ◌*◌, ◌/◌, ◌%◌, ◌^◌, ◌<◌, ◌≤◌, Bool, true, false, cond, eqb, List, length, get_or, set, sym, refl, ap, ◌∙◌, subst, ⊎_elim, mul_assoc, add-mul, add_comm, mul_left_comm, arith, pow_mono}
+use Rattle.std.proofs.Common.{◌≡◌, ℕ, suc, ◌+◌, ◌-◌, ◌*◌, ◌/◌, ◌%◌, ◌^◌, ◌<◌, ◌≤◌, Bool, true, false, cond, List, length, get_or, set, sym, refl, ap, ◌∙◌, subst, ⊎_elim, mul_assoc, add-mul, add_comm, mul_left_comm, arith, pow_mono}
 use mir.Val.{bool_byte}
 use native.Mathlib.Nat.{add-mul-div_right}
 use Rattle.std.proofs.lemmas.Nat.{pow-add, pow_pos, shr-shr, shr_split, shr_high, mod_below, shr_below, mul-le, mul-add-lt}
@@ -114,9 +114,3 @@ byte_is false = refl
 pub byte_below : (on : Bool) → bool_byte on < 2
 byte_below true = omega arith
 byte_below false = omega arith
-
--- a bit as a test, and back
-pub bit_tested : (b : ℕ) → b < 2 → cond (eqb b 1) 1 0 ≡ b
-bit_tested zero h = refl
-bit_tested (suc zero) h = refl
-bit_tested (suc (suc b)) h = absurd (omega arith)

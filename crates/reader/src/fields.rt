@@ -10,11 +10,7 @@ use draft::refusal::Refusal;
 pub(crate) fn bit_at(sheet: &[u8], k: usize) -> u8
     ensures { result ≡ bit sheet.now k }
 {
-    if k / 8 < sheet.len() {
-        (sheet[k / 8] >> (7 - k % 8)) % 2
-    } else {
-        0
-    }
+    bits::bit_at(sheet, k)
 }
 
 // The number that the `width` bits from `at` on mean, with zeros past the end.

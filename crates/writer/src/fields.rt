@@ -11,10 +11,7 @@ fn set_bit(out: &mut [u8], k: usize, b: u8)
     ensures others { (j : ℕ) → (j ≢ k) → bit out.new j ≡ bit out.old j }
     ensures rest { (i : ℕ) → (i ≢ k / 8) → slice_index out.new i ≡ slice_index out.old i }
 {
-    let old = out[k / 8];
-    let shift = 7 - k % 8;
-    let kept = old - ((old >> shift) % 2 << shift);
-    out[k / 8] = kept + (b << shift);
+    bits::set_bit(out, k, b == 1);
 }
 
 // Puts `value` into the `width` bits from `at` on, and no other bit changes.
