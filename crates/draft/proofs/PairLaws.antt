@@ -1,28 +1,31 @@
 -- Labels and pair numbers are one to one.
-use Rattle.std.proofs.Common.{◌≡◌, ℕ, zero, suc, ◌+◌, ◌-◌, ◌*◌, ◌<◌, ◌≤◌, Bool, true, false, not, ◌&&◌, eqb, ltb, ◌⊎◌, List, get_or, take, Some, None, Decides, sum, sym, refl, ap, ◌∙◌, ap₂, inl, inr, mul_comm, mul-suc, arith}
+use Rattle.std.proofs.Common.{◌≡◌, ℕ, zero, suc, ◌+◌, ◌-◌, ◌*◌, ◌<◌, ◌≤◌, Bool, true, false, not, ◌&&◌, eqb, ltb, ◌⊎◌, List, get_or, take, Some, None, Decides, sum, sym, refl, ap, ◌∙◌, inl, inr, mul_comm, mul-suc, arith}
 use native.Mathlib.Decide.{le_ind}
 use Rattle.std.proofs.lemmas.Bool.{cases_Bool, cases_lt, cases_eq, cases_order, cond-true, cond-false, eq-eqb, ne_eqb, lt-ltb, le-ltb}
 use Rattle.std.proofs.lemmas.Bool.Decides.{Decides-and, Decides-or, Decides-not, Decides-like, Decides-eqb, Decides-ltb, same_from_decides}
-use Rattle.draft.specs.Labels.{label, label_of, named, same, pairs_among, ordered, between, pair_number, pair_of, pair_count}
+use Rattle.draft.specs.Labels.{there, label, label_of, named, pairs_among, ordered, between, pair_number, pair_of, pair_count}
+use Rattle.draft.specs.Pairings.{mirrored, same_side, same}
+use Rattle.draft.specs.declared.pairing.Pairing.{Pairing}
+use Rattle.draft.specs.declared.pairing.Side.{Side}
 use Rattle.draft.specs.Shapes.{counts}
 use Rattle.draft.specs.declared.shape.Shape.{Shape}
 use Rattle.draft.proofs.ShapeLaws.{label_below, label_in, labels_most, limits}
 
 -- choices with one label are one choice
-pub label_same : (a : List ℕ) (i b j c : ℕ) → b < get_or a i 0 → c < get_or a j 0 → label a i b ≡ label a j c → (i ≡ j) × (b ≡ c)
-label_same a i b j c hb hc e =
-    elim (cases_order i j) [
-      | inl p ↦ (p, let q : sum (take i a) ≡ sum (take j a) = ap (λ n. sum (take n a)) p in omega arith)
-      | inr (inl l) ↦ absurd (omega (arith, label_below a i b j l hb))
-      | inr (inr l) ↦ absurd (omega (arith, label_below a j c i l hc))
+pub label_same : (a : List ℕ) (x y : Side) → x.choice < get_or a x.course 0 → y.choice < get_or a y.course 0 → label a x ≡ label a y → x ≡ y
+label_same a x y hx hy e =
+    elim (cases_order x.course y.course) [
+      | inl p ↦ (let q : sum (take x.course a) ≡ sum (take y.course a) = ap (λ n. sum (take n a)) p in let r : x.choice ≡ y.choice = omega arith in λ t. record { course = p t; choice = r t })
+      | inr (inl l) ↦ absurd (omega (arith, label_below a x y.course l hx))
+      | inr (inr l) ↦ absurd (omega (arith, label_below a y x.course l hy))
     ]
 
 -- an answered label is that of a choice
-pub label_some : (a : List ℕ) (i b u : ℕ) → Some u ≡ label_of a i b → (b < get_or a i 0) × (u ≡ label a i b)
-label_some a i b u e =
-    elim (cases_lt b (get_or a i 0)) [
-      | inl l ↦ (l, let f : Some u ≡ Some (label a i b) = e ∙ cond-true (ltb b (get_or a i 0)) _ _ (lt-ltb b (get_or a i 0) l) in cc)
-      | inr l ↦ absurd (let f : Some u ≡ None = e ∙ cond-false (ltb b (get_or a i 0)) _ _ (le-ltb b (get_or a i 0) l) in let z : ◌≡◌ {A = ℕ} 0 1 = cc in omega arith)
+pub label_some : (a : List ℕ) (x : Side) (u : ℕ) → Some u ≡ label_of a x → (x.choice < get_or a x.course 0) × (u ≡ label a x)
+label_some a x u e =
+    elim (cases_lt x.choice (get_or a x.course 0)) [
+      | inl l ↦ (l, let f : Some u ≡ Some (label a x) = e ∙ cond-true (there a x) _ _ (lt-ltb x.choice (get_or a x.course 0) l) in cc)
+      | inr l ↦ absurd (let f : Some u ≡ None = e ∙ cond-false (there a x) _ _ (le-ltb x.choice (get_or a x.course 0) l) in let z : ◌≡◌ {A = ℕ} 0 1 = cc in omega arith)
     ]
 
 -- a label more makes a pair with each of v labels
@@ -111,75 +114,88 @@ turn false true z = refl
 turn false false z = refl
 
 -- a pairing is named from either side
-pub named_swap : (a : List ℕ) (i b j c : ℕ) → named a i b j c ≡ named a j c i b
-named_swap a i b j c =
-    turn (ltb b (get_or a i 0)) (ltb c (get_or a j 0)) (not (eqb i j))
-    ∙ ap (λ t. ltb c (get_or a j 0) && (ltb b (get_or a i 0) && not t)) (eqb_swap i j)
+pub named_swap : (a : List ℕ) (p : Pairing) → named a p ≡ named a (mirrored p)
+named_swap a p =
+    turn (there a p.one) (there a p.other) (not (eqb p.one.course p.other.course))
+    ∙ ap (λ t. there a p.other && (there a p.one && not t)) (eqb_swap p.one.course p.other.course)
 
 -- what `named` tells
-pub named_says : (a : List ℕ) (i b j c : ℕ) → Decides (named a i b j c) ((b < get_or a i 0) × ((c < get_or a j 0) × (i ≡ j → ⊥)))
-named_says a i b j c = Decides-and _ _ (Decides-ltb b (get_or a i 0)) (Decides-and _ _ (Decides-ltb c (get_or a j 0)) (Decides-not _ (Decides-eqb i j)))
+pub named_says : (a : List ℕ) (p : Pairing) → Decides (named a p) ((p.one.choice < get_or a p.one.course 0) × ((p.other.choice < get_or a p.other.course 0) × (p.one.course ≡ p.other.course → ⊥)))
+named_says a p =
+    Decides-and _ _ (Decides-ltb p.one.choice (get_or a p.one.course 0))
+    (Decides-and _ _ (Decides-ltb p.other.choice (get_or a p.other.course 0)) (Decides-not _ (Decides-eqb p.one.course p.other.course)))
 
--- (i,b) is (k,d), and (j,c) is (l,e)
-abbrev pub Straight : (i b j c k d l e : ℕ) → Type 0
-Straight i b j c k d l e = (i ≡ k) × ((b ≡ d) × ((j ≡ l) × (c ≡ e)))
+-- a pairing has the number of its mirrored name
+pub number_swap : (a : List ℕ) (p : Pairing) → pair_number a p ≡ pair_number a (mirrored p)
+number_swap a p = between_swap (label a p.one) (label a p.other)
+
+-- what `same_side` tells
+same_side_says : (x y : Side) → Decides (same_side x y) (x ≡ y)
+same_side_says x y =
+    Decides-like _ (λ h t. record { course = h.0 t; choice = h.1 t }) (λ e. (ap (λ s. s.course) e, ap (λ s. s.choice) e))
+    (Decides-and _ _ (Decides-eqb x.course y.course) (Decides-eqb x.choice y.choice))
 
 -- what `same` tells
-pub same_says : (i b j c k d l e : ℕ) → Decides (same i b j c k d l e) (Straight i b j c k d l e ⊎ Straight i b j c l e k d)
-same_says i b j c k d l e =
+pub same_says : (p q : Pairing) → Decides (same p q) ((p ≡ q) ⊎ (p ≡ mirrored q))
+same_says p q =
     Decides-or _ _
-    (Decides-and _ _ (Decides-eqb i k) (Decides-and _ _ (Decides-eqb b d) (Decides-and _ _ (Decides-eqb j l) (Decides-eqb c e))))
-    (Decides-and _ _ (Decides-eqb i l) (Decides-and _ _ (Decides-eqb b e) (Decides-and _ _ (Decides-eqb j k) (Decides-eqb c d))))
+    (Decides-like _ (both p q) (parts p q) (Decides-and _ _ (same_side_says p.one q.one) (same_side_says p.other q.other)))
+    (Decides-like _ (both p (mirrored q)) (parts p (mirrored q)) (Decides-and _ _ (same_side_says p.one q.other) (same_side_says p.other q.one)))
+  where
+    both : (p q : Pairing) → (p.one ≡ q.one) × (p.other ≡ q.other) → p ≡ q
+    both p q h = λ t. record { one = h.0 t; other = h.1 t }
+
+    parts : (p q : Pairing) → p ≡ q → (p.one ≡ q.one) × (p.other ≡ q.other)
+    parts p q e = (ap (λ r. r.one) e, ap (λ r. r.other) e)
 
 -- the two choices of a pairing have two labels
-pub labels_differ : (a : List ℕ) (i b j c : ℕ) → named a i b j c ≡ true → label a i b ≡ label a j c → ⊥
-labels_differ a i b j c s z =
-    let p = (named_says a i b j c).0 s in
-    p.1.1 (label_same a i b j c p.0 p.1.0 z).0
+pub labels_differ : (a : List ℕ) (p : Pairing) → named a p ≡ true → label a p.one ≡ label a p.other → ⊥
+labels_differ a p s z =
+    let h = (named_says a p).0 s in
+    h.1.1 (ap (λ x. x.course) (label_same a p.one p.other h.0 h.1.0 z))
 
 -- a pair number is below the number of them
-pub pair_below : (a : List ℕ) (i b j c : ℕ) → named a i b j c ≡ true → pair_number a i b j c < pair_count a
-pair_below a i b j c s =
-    let p = (named_says a i b j c).0 s in
-    between_below (sum a) (label a i b) (label a j c) (labels_differ a i b j c s) (label_in a i b p.0) (label_in a j c p.1.0)
+pub pair_below : (a : List ℕ) (p : Pairing) → named a p ≡ true → pair_number a p < pair_count a
+pair_below a p s =
+    let h = (named_says a p).0 s in
+    between_below (sum a) (label a p.one) (label a p.other) (labels_differ a p s) (label_in a p.one h.0) (label_in a p.other h.1.0)
 
 -- an answered pair number is that of a pairing
-pub pair_some : (a : List ℕ) (i b j c p : ℕ) → Some p ≡ pair_of a i b j c → (named a i b j c ≡ true) × (p ≡ pair_number a i b j c)
-pair_some a i b j c p e =
-    elim (cases_Bool (named a i b j c)) [
-      | inl t ↦ (t, let f : Some p ≡ Some (pair_number a i b j c) = e ∙ cond-true (named a i b j c) _ _ t in cc)
-      | inr t ↦ absurd (let f : Some p ≡ None = e ∙ cond-false (named a i b j c) _ _ t in let z : ◌≡◌ {A = ℕ} 0 1 = cc in omega arith)
+pub pair_some : (a : List ℕ) (p : Pairing) (n : ℕ) → Some n ≡ pair_of a p → (named a p ≡ true) × (n ≡ pair_number a p)
+pair_some a p n e =
+    elim (cases_Bool (named a p)) [
+      | inl t ↦ (t, let f : Some n ≡ Some (pair_number a p) = e ∙ cond-true (named a p) _ _ t in cc)
+      | inr t ↦ absurd (let f : Some n ≡ None = e ∙ cond-false (named a p) _ _ t in let z : ◌≡◌ {A = ℕ} 0 1 = cc in omega arith)
     ]
 
 -- what has no pair number is no pairing
-pub pair_none : (a : List ℕ) (i b j c : ℕ) → None ≡ pair_of a i b j c → named a i b j c ≡ false
-pair_none a i b j c e =
-    elim (cases_Bool (named a i b j c)) [
-      | inl t ↦ absurd (let f : None ≡ Some (pair_number a i b j c) = e ∙ cond-true (named a i b j c) _ _ t in let z : ◌≡◌ {A = ℕ} 0 1 = cc in omega arith)
+pub pair_none : (a : List ℕ) (p : Pairing) → None ≡ pair_of a p → named a p ≡ false
+pair_none a p e =
+    elim (cases_Bool (named a p)) [
+      | inl t ↦ absurd (let f : None ≡ Some (pair_number a p) = e ∙ cond-true (named a p) _ _ t in let z : ◌≡◌ {A = ℕ} 0 1 = cc in omega arith)
       | inr t ↦ t
     ]
 
 -- one pairing has one number
-one_number : (a : List ℕ) (i b j c k d l e : ℕ) → Straight i b j c k d l e ⊎ Straight i b j c l e k d → pair_number a i b j c ≡ pair_number a k d l e
-one_number a i b j c k d l e (inl h) = ap₂ between (ap₂ (label a) h.0 h.1.0) (ap₂ (label a) h.1.1.0 h.1.1.1)
-one_number a i b j c k d l e (inr h) =
-    ap₂ between (ap₂ (label a) h.0 h.1.0) (ap₂ (label a) h.1.1.0 h.1.1.1) ∙ between_swap (label a l e) (label a k d)
+one_number : (a : List ℕ) (p q : Pairing) → (p ≡ q) ⊎ (p ≡ mirrored q) → pair_number a p ≡ pair_number a q
+one_number a p q (inl h) = ap (pair_number a) h
+one_number a p q (inr h) = ap (pair_number a) h ∙ sym (number_swap a q)
 
 -- one number is that of one pairing
-one_pairing : (a : List ℕ) (i b j c k d l e : ℕ) → named a i b j c ≡ true → named a k d l e ≡ true
-    → pair_number a i b j c ≡ pair_number a k d l e → Straight i b j c k d l e ⊎ Straight i b j c l e k d
-one_pairing a i b j c k d l e s t h =
-    let p = (named_says a i b j c).0 s in
-    let q = (named_says a k d l e).0 t in
-    elim (between_same _ _ _ _ (labels_differ a i b j c s) (labels_differ a k d l e t) h) [
-      | inl z ↦ (let u = label_same a i b k d p.0 q.0 z.0 in let v = label_same a j c l e p.1.0 q.1.0 z.1 in inl (u.0, (u.1, (v.0, v.1))))
-      | inr z ↦ (let u = label_same a i b l e p.0 q.1.0 z.0 in let v = label_same a j c k d p.1.0 q.0 z.1 in inr (u.0, (u.1, (v.0, v.1))))
+one_pairing : (a : List ℕ) (p q : Pairing) → named a p ≡ true → named a q ≡ true
+    → pair_number a p ≡ pair_number a q → (p ≡ q) ⊎ (p ≡ mirrored q)
+one_pairing a p q s t h =
+    let x = (named_says a p).0 s in
+    let y = (named_says a q).0 t in
+    elim (between_same _ _ _ _ (labels_differ a p s) (labels_differ a q t) h) [
+      | inl z ↦ (let u = label_same a p.one q.one x.0 y.0 z.0 in let v = label_same a p.other q.other x.1.0 y.1.0 z.1 in inl (λ k. record { one = u k; other = v k }))
+      | inr z ↦ (let u = label_same a p.one q.other x.0 y.1.0 z.0 in let v = label_same a p.other q.one x.1.0 y.0 z.1 in inr (λ k. record { one = u k; other = v k }))
     ]
 
 -- pairings of one shape have one number where they are one pairing, and only there
-pub pair_same : (a : List ℕ) (i b j c k d l e : ℕ) → named a i b j c ≡ true → named a k d l e ≡ true
-    → eqb (pair_number a i b j c) (pair_number a k d l e) ≡ same i b j c k d l e
-pair_same a i b j c k d l e s t =
+pub pair_same : (a : List ℕ) (p q : Pairing) → named a p ≡ true → named a q ≡ true
+    → eqb (pair_number a p) (pair_number a q) ≡ same p q
+pair_same a p q s t =
     same_from_decides _ _
-    (Decides-eqb (pair_number a i b j c) (pair_number a k d l e))
-    (Decides-like _ (one_number a i b j c k d l e) (one_pairing a i b j c k d l e s t) (same_says i b j c k d l e))
+    (Decides-eqb (pair_number a p) (pair_number a q))
+    (Decides-like _ (one_number a p q) (one_pairing a p q s t) (same_says p q))

@@ -1,31 +1,24 @@
 -- What the limits of a shape say of its counts and its labels.
-use Rattle.std.proofs.Common.{◌≡◌, ℕ, zero, suc, ◌+◌, ◌-◌, ◌*◌, ◌<◌, ◌≤◌, List, length, get_or, take, sum, sym, refl, ap, ◌∙◌, inl, inr, add-one, arith}
-use Rattle.std.specs.List.{AllByRecursion}
+use Rattle.std.proofs.Common.{◌≡◌, ℕ, zero, suc, ◌+◌, ◌-◌, ◌*◌, ◌<◌, ◌≤◌, List, [], ◌∷◌, map, length, get_or, take, sum, sym, ap, ◌∙◌, inl, inr, add-one, arith}
+use Rattle.std.specs.List.{range_with_len, AllByRecursion}
 use Rattle.std.proofs.ByRecursion.{All-from_get_or, All-take, sum_by_le}
-use Rattle.std.proofs.lemmas.Simd.{get_or-replicate}
-use Rattle.std.proofs.lemmas.List.{get_or-take, get_or_past, length-take, length-take-le, take_all, take-take}
+use Rattle.std.proofs.lemmas.List.{get_or_past, ext_get_or, length-take, take_all, take-take}
+use Rattle.std.proofs.lemmas.List.FromFn.{length-map-range_with_len, get_or-map-range_with_len}
 use Rattle.std.proofs.lemmas.List.Sums.{sum_by_more, sum_by-take-le}
 use Rattle.std.proofs.lemmas.Bool.{cases_lt}
-use Rattle.draft.specs.Labels.{label, widest}
+use Rattle.draft.specs.Labels.{label}
 use Rattle.draft.specs.Limits.{Limits}
 use Rattle.draft.specs.Shapes.{counts}
+use Rattle.draft.specs.declared.pairing.Side.{Side}
 use Rattle.draft.specs.declared.shape.Shape.{Shape}
-
--- the table has a count for each course
-long : (s : Shape) → s.len ≤ length s.table
-long s =
-    elim (cases_lt (length s.table) s.len) [
-      | inl h ↦ absurd (omega (arith, s.few, s.each (s.len - 1) (omega (arith, s.few)), get_or_past s.table (s.len - 1) 0 (omega (arith, s.few))))
-      | inr h ↦ h
-    ]
 
 -- there is a count for each course
 pub counts_length : (s : Shape) → length (counts s) ≡ s.len
-counts_length s = length-take-le s.len s.table (long s)
+counts_length s = length-map-range_with_len _ 0 s.len
 
 -- the count of course k
-pub counts_at : (s : Shape) (k : ℕ) → k < s.len → get_or (counts s) k 0 ≡ get_or s.table k 0
-counts_at s k h = get_or-take s.len s.table k 0 h
+pub counts_at : (s : Shape) (k : ℕ) → k < s.len → get_or (counts s) k 0 ≡ get_or s.firsts (k + 1) 0 - get_or s.firsts k 0
+counts_at s k h = get_or-map-range_with_len _ 0 s.len k k 0 h (omega arith)
 
 -- no shape is outside the limits
 pub limits : (s : Shape) → Limits (counts s)
@@ -33,7 +26,7 @@ limits s =
     let n = counts_length s in (
       omega (arith, s.few),
       omega (arith, s.many),
-      λ k h. let l : k < s.len = omega arith in rw (counts_at s k l) (s.each k l),
+      λ k h. let l : k < s.len = omega arith in let e = s.each k l in (omega (arith, counts_at s k l, e.0), omega (arith, counts_at s k l, e.1)),
     )
 
 -- a course with a choice is there
@@ -51,6 +44,16 @@ sum_more a k =
       | inl l ↦ sum_by_more (λ x. x) a k 0 l
       | inr l ↦ let p = ap sum (take_all k a l) in let q = ap sum (take_all (k + 1) a (omega arith)) in omega (arith, p, q, get_or_past a k 0 l)
     ]
+
+-- the first label of course k, and after the last course the number of labels
+pub firsts_at : (s : Shape) (k : ℕ) → k ≤ s.len → get_or s.firsts k 0 ≡ sum (take k (counts s))
+firsts_at s zero h = s.from
+firsts_at s (suc k) h =
+    let more : sum (take (k + 1) (counts s)) ≡ sum (take k (counts s)) + get_or (counts s) k 0 = sum_more (counts s) k in
+    let below = firsts_at s k (omega arith) in
+    let l : k < s.len = omega arith in
+    let e : get_or s.firsts (k + 1) 0 ≡ sum (take (k + 1) (counts s)) = omega (arith, more, below, counts_at s k l, (s.each k l).0) in
+    ap (λ n. get_or s.firsts n 0) (sym (add-one k)) ∙ e ∙ ap (λ n. sum (take n (counts s))) (add-one k)
 
 -- more courses have no fewer labels
 pub sum_mono : (a : List ℕ) (j k : ℕ) → j ≤ k → sum (take j a) ≤ sum (take k a)
@@ -73,23 +76,32 @@ labels_least a m =
     let two : sum (take 2 a) ≡ sum (take 1 a) + get_or a 1 0 = sum_more a 1 in
     omega (arith, m.0, one, two, (m.2 0 (omega (arith, m.0))).0, (m.2 1 (omega (arith, m.0))).0, sum_by-take-le (λ x. x) a 2)
 
+-- after the last course comes the number of labels
+pub firsts_last : (s : Shape) → get_or s.firsts s.len 0 ≡ sum (counts s)
+firsts_last s = firsts_at s s.len (omega arith) ∙ ap sum (take_all s.len (counts s) (omega (arith, counts_length s)))
+
+-- a course with a choice is one of the shape
+pub course_in : (s : Shape) (k b : ℕ) → b < get_or (counts s) k 0 → k < s.len
+course_in s k b h = omega (arith, within (counts s) k b h, counts_length s)
+
 -- the labels of a course stand below the first label of a later one
-pub label_below : (a : List ℕ) (i b j : ℕ) → i < j → b < get_or a i 0 → label a i b < sum (take j a)
-label_below a i b j h l = omega (arith, sum_more a i, sum_mono a (i + 1) j (omega arith))
+pub label_below : (a : List ℕ) (x : Side) (j : ℕ) → x.course < j → x.choice < get_or a x.course 0 → label a x < sum (take j a)
+label_below a x j h l = omega (arith, sum_more a x.course, sum_mono a (x.course + 1) j (omega arith))
 
 -- a label is below the number of labels
-pub label_in : (a : List ℕ) (i b : ℕ) → b < get_or a i 0 → label a i b < sum a
-label_in a i b l = omega (arith, sum_more a i, sum_by-take-le (λ x. x) a (i + 1))
+pub label_in : (a : List ℕ) (x : Side) → x.choice < get_or a x.course 0 → label a x < sum a
+label_in a x l = omega (arith, sum_more a x.course, sum_by-take-le (λ n. n) a (x.course + 1))
 
--- a choice of the widest shape is one of the first 8 of the first 24 courses
-pub widest_within : (i b : ℕ) → b < get_or widest i 0 → (i < 24) × (b < 8)
-widest_within i b h =
-    let w : i < 24 = within widest i b h in
-    (w, omega (arith, get_or-replicate {A = ℕ} 24 i 8 0 w))
+-- the widest shape's first labels
+pub widest_at : (k : ℕ) → k ≤ 24 → get_or (0 ∷ 8 ∷ 16 ∷ 24 ∷ 32 ∷ 40 ∷ 48 ∷ 56 ∷ 64 ∷ 72 ∷ 80 ∷ 88 ∷ 96 ∷ 104 ∷ 112 ∷ 120 ∷ 128 ∷ 136 ∷ 144 ∷ 152 ∷ 160 ∷ 168 ∷ 176 ∷ 184 ∷ 192 ∷ []) k 0 ≡ 8 * k
+widest_at k h = get_or-map-range_with_len (λ n. 8 * n) 0 25 k k 0 (omega arith) (omega arith)
 
--- course i of the widest shape has 8 * i labels before its own
-pub widest_first : (i : ℕ) → i ≤ 24 → sum (take i widest) ≡ 8 * i
-widest_first zero h = refl
-widest_first (suc i) h =
-    ap (λ n. sum (take n widest)) (sym (add-one i))
-    ∙ omega (arith, sum_more widest i, widest_first i (omega arith), get_or-replicate {A = ℕ} 24 i 8 0 (omega arith))
+-- a table of first labels gives back the counts
+pub counts_back : (firsts a : List ℕ) → ((k : ℕ) → k ≤ length a → get_or firsts k 0 ≡ sum (take k a))
+    → map (λ k. get_or firsts (k + 1) 0 - get_or firsts k 0) (range_with_len 0 (length a)) ≡ a
+counts_back firsts a h =
+    let f : ℕ → ℕ = λ k. get_or firsts (k + 1) 0 - get_or firsts k 0 in
+    ext_get_or 0 (map f (range_with_len 0 (length a))) a (length-map-range_with_len f 0 (length a)) (λ k l.
+    let more : sum (take (k + 1) a) ≡ sum (take k a) + get_or a k 0 = sum_more a k in
+    let low : k < length a = omega (arith, length-map-range_with_len f 0 (length a)) in
+    omega (arith, get_or-map-range_with_len f 0 (length a) k k 0 low (omega arith), h k (omega arith), h (k + 1) (omega arith), more))

@@ -6,13 +6,15 @@
 --   restrict   the draft of those pairings that pass a test
 --   strike     the draft less one pairing
 use Rattle.std.specs.Prelude.{◌≡◌, ℕ, ◌<◌, ◌≤◌, Bool, true, not, ◌&&◌, List, length, ◌≢◌, slice_index}
-use Rattle.draft.specs.Labels.{named, same}
+use Rattle.draft.specs.Labels.{named}
+use Rattle.draft.specs.Pairings.{mirrored, same}
+use Rattle.draft.specs.declared.pairing.Pairing.{Pairing}
 
--- (i,b)-(j,c) stands where `stands i b j c` is true; where there is no course i, `choices i` is 0
+-- where there is no course i, `choices i` is 0
 pub record Draft : Type 0 where
   pub courses : ℕ
   pub choices : ℕ → ℕ
-  pub stands : (i b j c : ℕ) → Bool
+  pub stands : Pairing → Bool
 
 -- 2 to 24 courses of 1 to 8 choices; the set has only pairings of two different courses of the shape,
 -- and a pairing is in it under both of its names or under neither
@@ -22,19 +24,19 @@ pub record Lawful (D : Draft) : Type 0 where
   pub some_choice : (i : ℕ) → i < D.courses → 1 ≤ D.choices i
   pub few : (i : ℕ) → D.choices i ≤ 8
   pub outside : (i : ℕ) → D.courses ≤ i → D.choices i ≡ 0
-  pub mirrored : (i b j c : ℕ) → D.stands i b j c ≡ D.stands j c i b
-  pub course : (i b j c : ℕ) → D.stands i b j c ≡ true → i < D.courses
-  pub choice : (i b j c : ℕ) → D.stands i b j c ≡ true → b < D.choices i
-  pub apart : (i b j c : ℕ) → D.stands i b j c ≡ true → i ≢ j
+  pub mirrored : (p : Pairing) → D.stands p ≡ D.stands (mirrored p)
+  pub course : (p : Pairing) → D.stands p ≡ true → p.one.course < D.courses
+  pub choice : (p : Pairing) → D.stands p ≡ true → p.one.choice < D.choices p.one.course
+  pub apart : (p : Pairing) → D.stands p ≡ true → p.one.course ≢ p.other.course
 
 -- the draft of the shape with the counts a in which every pairing stands
 abbrev pub whole : List ℕ → Draft
 whole a = record { courses = length a; choices = λ i. slice_index a i; stands = named a }
 
 -- the draft of D's shape in which those pairings of D stand that pass the test
-abbrev pub restrict : Draft → ((i b j c : ℕ) → Bool) → Draft
-restrict D passes = record { courses = D.courses; choices = D.choices; stands = λ i b j c. D.stands i b j c && passes i b j c }
+abbrev pub restrict : Draft → (Pairing → Bool) → Draft
+restrict D passes = record { courses = D.courses; choices = D.choices; stands = λ p. D.stands p && passes p }
 
--- D less the pairing (i,b)-(j,c)
-abbrev pub strike : Draft → (i b j c : ℕ) → Draft
-strike D i b j c = restrict D (λ k d l e. not (same i b j c k d l e))
+-- D less the pairing p
+abbrev pub strike : Draft → Pairing → Draft
+strike D p = restrict D (λ q. not (same p q))

@@ -1,21 +1,24 @@
 -- The labels of choices and the numbers of pairings, over the list a of choice counts.
-use Rattle.std.specs.Prelude.{◌≡◌, ℕ, ◌+◌, ◌-◌, ◌*◌, ◌/◌, ◌<◌, Bool, true, cond, not, ◌&&◌, ◌||◌, List, take, replicate, Some, None, sum, Option, ◌==◌, nat_lt, slice_index}
+use Rattle.std.specs.Prelude.{◌≡◌, ℕ, ◌+◌, ◌-◌, ◌*◌, ◌/◌, ◌<◌, Bool, true, not, ◌&&◌, List, take, replicate, Some, None, if◌then◌else◌, sum, Option, ◌==◌, nat_lt, slice_index}
+use Rattle.draft.specs.Pairings.{same}
+use Rattle.draft.specs.declared.pairing.Pairing.{Pairing}
+use Rattle.draft.specs.declared.pairing.Side.{Side}
 
--- the label of choice b of course i: b plus the choice counts of all earlier courses
-abbrev pub label : List ℕ → (i b : ℕ) → ℕ
-label a i b = sum (take i a) + b
+-- the course has such a choice
+abbrev pub there : List ℕ → Side → Bool
+there a x = nat_lt x.choice (slice_index a x.course)
 
--- that label, where course i has a choice b
-abbrev pub label_of : List ℕ → (i b : ℕ) → Option ℕ
-label_of a i b = cond (nat_lt b (slice_index a i)) (Some (label a i b)) None
+-- the label of a choice: its number plus the choice counts of all earlier courses
+abbrev pub label : List ℕ → Side → ℕ
+label a x = sum (take x.course a) + x.choice
 
--- (i,b)-(j,c) joins choices of two different courses
-abbrev pub named : List ℕ → (i b j c : ℕ) → Bool
-named a i b j c = nat_lt b (slice_index a i) && (nat_lt c (slice_index a j) && not (i == j))
+-- that label, where there is such a choice
+abbrev pub label_of : List ℕ → Side → Option ℕ
+label_of a x = if there a x then Some (label a x) else None
 
--- (i,b)-(j,c) and (k,d)-(l,e) are one pairing
-abbrev pub same : (i b j c k d l e : ℕ) → Bool
-same i b j c k d l e = (i == k && (b == d && (j == l && c == e))) || (i == l && (b == e && (j == k && c == d)))
+-- the pairing joins choices of two different courses
+abbrev pub named : List ℕ → Pairing → Bool
+named a p = there a p.one && (there a p.other && not (p.one.course == p.other.course))
 
 -- how many pairs n labels make
 abbrev pub pairs_among : ℕ → ℕ
@@ -27,15 +30,15 @@ ordered u v = pairs_among v + u
 
 -- the pair number of two labels, in either order
 abbrev pub between : (u v : ℕ) → ℕ
-between u v = cond (nat_lt u v) (ordered u v) (ordered v u)
+between u v = if nat_lt u v then ordered u v else ordered v u
 
--- the pair number of (i,b)-(j,c)
-abbrev pub pair_number : List ℕ → (i b j c : ℕ) → ℕ
-pair_number a i b j c = between (label a i b) (label a j c)
+-- the pair number of a pairing
+abbrev pub pair_number : List ℕ → Pairing → ℕ
+pair_number a p = between (label a p.one) (label a p.other)
 
--- that number, where (i,b)-(j,c) joins choices of two different courses
-abbrev pub pair_of : List ℕ → (i b j c : ℕ) → Option ℕ
-pair_of a i b j c = cond (named a i b j c) (Some (pair_number a i b j c)) None
+-- that number, where the pairing joins choices of two different courses
+abbrev pub pair_of : List ℕ → Pairing → Option ℕ
+pair_of a p = if named a p then Some (pair_number a p) else None
 
 -- how many pair numbers there are
 abbrev pub pair_count : List ℕ → ℕ
@@ -45,10 +48,10 @@ pair_count a = pairs_among (sum a)
 abbrev pub widest : List ℕ
 widest = replicate 24 8
 
--- no other choice has the label of choice b of course i
-abbrev pub OneLabel : List ℕ → (i b : ℕ) → Type 0
-OneLabel a i b = (j c : ℕ) → c < slice_index a j → label a j c ≡ label a i b → (j ≡ i) × (c ≡ b)
+-- no other choice has the label of this one
+abbrev pub OneLabel : List ℕ → Side → Type 0
+OneLabel a x = (y : Side) → y.choice < slice_index a y.course → label a y ≡ label a x → y ≡ x
 
--- a pairing has the number of (i,b)-(j,c) exactly where it is that pairing
-abbrev pub OnePair : List ℕ → (i b j c : ℕ) → Type 0
-OnePair a i b j c = (k d l e : ℕ) → named a k d l e ≡ true → (pair_number a i b j c == pair_number a k d l e) ≡ same i b j c k d l e
+-- a pairing has the number of p exactly where it is p
+abbrev pub OnePair : List ℕ → Pairing → Type 0
+OnePair a p = (q : Pairing) → named a q ≡ true → (pair_number a p == pair_number a q) ≡ same p q

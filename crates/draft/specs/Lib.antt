@@ -3,5 +3,6 @@ pub mod Faults
 pub mod Frames
 pub mod Labels
 pub mod Limits
+pub mod Pairings
 pub mod Refusals
 pub mod Shapes

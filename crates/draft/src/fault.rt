@@ -3,6 +3,7 @@ ghost use Rattle.std.specs.Prelude.{◌≡◌};
 ghost use Rattle.draft.specs.Faults.{refusal_of, bit_of};
 
 use crate::refusal::Refusal;
+use std::fmt;
 
 // What a refused call answers. A sheet's fault also names the first bit of the field at fault.
 #[derive(Clone, Copy, PartialEq, Eq, Debug)]
@@ -18,9 +19,8 @@ impl Fault {
         ensures value { result ≡ refusal_of self }
     {
         match self {
-            Fault::Sheet { refusal, .. } => refusal,
-            Fault::Line { refusal } => refusal,
-            Fault::Plan { refusal } => refusal,
+            Fault::Sheet { refusal, .. } | Fault::Line { refusal } | Fault::Plan { refusal } =>
+                refusal,
         }
     }
 
@@ -30,8 +30,18 @@ impl Fault {
     {
         match self {
             Fault::Sheet { bit, .. } => Some(bit),
-            Fault::Line { .. } => None,
-            Fault::Plan { .. } => None,
+            Fault::Line { .. } | Fault::Plan { .. } => None,
+        }
+    }
+}
+
+// Who refused, the refusal's number, and the bit where a sheet is at fault.
+impl fmt::Display for Fault {
+    fn fmt<W: fmt::Write>(&self, f: &mut fmt::Formatter<W>) -> fmt::Result {
+        match self {
+            Fault::Sheet { refusal, bit } => write!(f, "sheet {refusal} {bit}"),
+            Fault::Line { refusal } => write!(f, "line {refusal}"),
+            Fault::Plan { refusal } => write!(f, "plan {refusal}"),
         }
     }
 }

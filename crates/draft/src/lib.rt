@@ -3,8 +3,8 @@
 #![tactic(auto)]
 
 pub mod fault;
-pub mod labels;
+mod labels;
+pub mod pairing;
 pub mod refusal;
 pub mod shape;
-pub mod shapes;
 pub mod store;

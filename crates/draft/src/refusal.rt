@@ -2,6 +2,8 @@
 ghost use Rattle.std.specs.Prelude.{◌≡◌};
 ghost use Rattle.draft.specs.Refusals.{number_of};
 
+use std::fmt;
+
 // Why a call is refused. The discriminant is the number that is reported.
 #[derive(Clone, Copy, PartialEq, Eq, Debug)]
 pub enum Refusal {
@@ -39,11 +41,17 @@ pub enum Refusal {
     Trailing = 16,
 }
 
-impl Refusal {
-    // The number that is reported.
-    pub fn number(self) -> u8
-        ensures value { result ≡ number_of self }
-    {
-        self as u8
+// The number that is reported.
+impl From<Refusal> for u8 {
+    ghost from_gives = { λ refusal number. number ≡ number_of refusal };
+
+    fn from(refusal: Refusal) -> u8 {
+        refusal as u8
+    }
+}
+
+impl fmt::Display for Refusal {
+    fn fmt<W: fmt::Write>(&self, f: &mut fmt::Formatter<W>) -> fmt::Result {
+        write!(f, "{}", u8::from(*self))
     }
 }

@@ -3,6 +3,8 @@ ghost use Rattle.std.specs.Prelude.{◌≡◌};
 ghost use Rattle.draft.specs.Drafts.{Draft, Lawful, strike};
 ghost use Rattle.draft.specs.Frames.{Preorder};
 
+use crate::pairing::Pairing;
+
 // A store means a draft: a shape, and the set of the pairings that stand.
 pub trait Store {
     // The draft that the store means.
@@ -24,12 +26,12 @@ pub trait Store {
     fn choices(&self, i: usize) -> usize
         ensures value { result ≡ (draft self.now).choices i };
 
-    // Whether choice `b` of course `i` and choice `c` of course `j` are a standing pairing.
-    fn stands(&self, i: usize, b: usize, j: usize, c: usize) -> bool
-        ensures value { result ≡ (draft self.now).stands i b j c };
+    // Whether the pairing stands; one that is outside the shape, or of one course, does not.
+    fn stands(&self, pairing: Pairing) -> bool
+        ensures value { result ≡ (draft self.now).stands pairing };
 
     // Takes the pairing out of the set, where there is such a pairing.
-    fn strike(&mut self, i: usize, b: usize, j: usize, c: usize)
-        ensures draft { draft self.new ≡ strike (draft self.old) i b j c }
+    fn strike(&mut self, pairing: Pairing)
+        ensures draft { draft self.new ≡ strike (draft self.old) pairing }
         ensures frame { frame self.old self.new };
 }

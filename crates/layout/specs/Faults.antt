@@ -5,7 +5,7 @@
 --   unless ok e p      refusal e at bit p, unless ok
 --   Tells fault r      r is refused with that fault, or accepted where there is none
 --   bar_fault a x b p  the fault of bar b at bit p after the bar x, with the choice counts a
-use Rattle.std.specs.Prelude.{◌≡◌, ℕ, zero, suc, Bool, true, cond, ◌&&◌, List, Some, None, Ok, Err, Option, Result, nat_lt, slice_index}
+use Rattle.std.specs.Prelude.{◌≡◌, ℕ, zero, suc, Bool, true, ◌&&◌, List, Some, None, Ok, Err, if◌then◌else◌, Option, Result, nat_lt, slice_index}
 use Rattle.draft.specs.declared.fault.Fault.{Fault}
 use Rattle.draft.specs.declared.fault.Fault.TheVariants.{Sheet}
 use Rattle.draft.specs.declared.refusal.Refusal.{Refusal}
@@ -25,7 +25,7 @@ first_of t (suc n) = first (first_of t n) (t n)
 
 -- a test of the field at bit p
 abbrev pub unless : Bool → Refusal → ℕ → Option Fault
-unless ok e p = cond ok None (Some (Sheet e p))
+unless ok e p = if ok then None else Some (Sheet e p)
 
 -- the call is refused with that fault, and accepted where there is none
 abbrev pub Tells : {U : Type 0} → Option Fault → Result U Fault → Type 0

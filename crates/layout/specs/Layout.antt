@@ -5,7 +5,7 @@
 --   layout cs hs bs     the fields of the sheet of these rows
 --   Lawful cs hs bs     the rows have a sheet
 --   IsSheet s cs hs bs  the bytes s are that sheet
-use Rattle.std.specs.Prelude.{◌≡◌, ℕ, ◌+◌, ◌-◌, ◌*◌, ◌/◌, ◌%◌, ◌^◌, ◌<◌, ◌≤◌, cond, List, [], ◌∷◌, ◌++◌, map, length, take, drop, sum_by, nat_lt, slice_index, slice_index_or}
+use Rattle.std.specs.Prelude.{◌≡◌, ℕ, ◌+◌, ◌-◌, ◌*◌, ◌/◌, ◌%◌, ◌^◌, ◌<◌, ◌≤◌, List, [], ◌∷◌, ◌++◌, map, length, take, drop, sum_by, if◌then◌else◌, nat_lt, slice_index, slice_index_or}
 use Rattle.std.specs.List.{flat_map, AllByRecursion}
 use Rattle.layout.specs.declared.rows.BarRow.{BarRow}
 use Rattle.layout.specs.declared.rows.ChoiceRow.{ChoiceRow}
@@ -24,7 +24,7 @@ size (f ∷ fs) = f.0 + size fs
 -- bit j of fields laid end to end, each most significant bit first; 0 past the last
 abbrev pub laid : List Field → ℕ → ℕ
 laid [] j = 0
-laid (f ∷ fs) j = cond (nat_lt j f.0) (f.1 / 2 ^ (f.0 - 1 - j) % 2) (laid fs (j - f.0))
+laid (f ∷ fs) j = if nat_lt j f.0 then f.1 / 2 ^ (f.0 - 1 - j) % 2 else laid fs (j - f.0)
 
 -- a choice: evening, room
 abbrev pub choice_fields : ChoiceRow → List Field

@@ -1,13 +1,12 @@
 // The choice record: an evening and a room within their limits.
-ghost use Rattle.std.specs.Prelude.{◌≡◌, ◌≤◌, IfOk, Some, None, MatchResult};
-ghost use Rattle.layout.specs.Records.{refusal_of};
+ghost use Rattle.std.specs.Prelude.{◌≡◌, ◌≤◌};
 
 use crate::rows::ChoiceRow;
 use draft::refusal::Refusal;
 
-const LAST_EVENING: u8 = 6;
+pub const LAST_EVENING: u8 = 6;
 
-const LAST_ROOM: u8 = 31;
+pub const LAST_ROOM: u8 = 31;
 
 // A choice whose evening is at most 6 and whose room is at most 31.
 #[derive(Clone, Copy)]
@@ -18,13 +17,15 @@ pub struct Choice {
     ghost housed: { room ≤ 31 },
 }
 
-impl Choice {
+impl TryFrom<ChoiceRow> for Choice {
+    type Error = Refusal;
+
+    ghost use Rattle.layout.specs.Records.{Recorded};
+
+    ghost try_from_gives = { Recorded };
+
     // The record of a row, or why the row makes none.
-    pub fn new(row: &ChoiceRow) -> Result<Choice, Refusal>
-        ensures test { MatchResult result (λ _. refusal_of row.now ≡ None) (λ e. refusal_of row.now ≡ Some e) }
-        ensures evening { IfOk result (λ c. c.evening ≡ row.now.evening) }
-        ensures room { IfOk result (λ c. c.room ≡ row.now.room) }
-    {
+    fn try_from(row: ChoiceRow) -> Result<Choice, Refusal> {
         if row.evening > LAST_EVENING {
             return Err(Refusal::Evening);
         }
@@ -36,7 +37,9 @@ impl Choice {
             room: row.room,
         })
     }
+}
 
+impl Choice {
     // The evening, 0 to 6.
     pub fn evening(&self) -> u8
         ensures value { result ≡ self.now.evening }

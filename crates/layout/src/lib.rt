@@ -3,5 +3,6 @@
 
 pub mod bars;
 pub mod choice;
+pub mod faults;
 pub mod rows;
 pub mod shapes;

@@ -7,9 +7,7 @@ ghost use Rattle.layout.specs.Layout.{counts_of};
 
 use crate::rows::CourseRow;
 use draft::refusal::Refusal;
-use draft::shape::Shape;
-
-const MOST_COURSES: usize = 24;
+use draft::shape::{MAX_COURSES, Shape};
 
 // The choice counts of the rows in the front of a table.
 fn count_table(courses: &[CourseRow]) -> [u8; 24]
@@ -17,8 +15,8 @@ fn count_table(courses: &[CourseRow]) -> [u8; 24]
     ensures value { take (length courses.now) result ≡ counts_of courses.now }
 {
     let mut table = [0; 24];
-    for i in 0..courses.len() {
-        table[i] = courses[i].choices;
+    for (i, row) in courses.iter().enumerate() {
+        table[i] = row.choices;
     }
     table
 }
@@ -27,11 +25,8 @@ fn count_table(courses: &[CourseRow]) -> [u8; 24]
 pub fn shape_of(courses: &[CourseRow]) -> Result<Shape, Refusal>
     ensures value { MatchResult result (λ s. counts s ≡ counts_of courses.now) (λ e. (Limits (counts_of courses.now) → ⊥) × (e ≡ Limit)) }
 {
-    if courses.len() > MOST_COURSES {
+    if courses.len() > MAX_COURSES {
         return Err(Refusal::Limit);
     }
-    let table = count_table(courses);
-    let mut shape = Shape::new();
-    shape.set(&table[0..courses.len()])?;
-    Ok(shape)
+    Shape::try_from(&count_table(courses)[..courses.len()])
 }

@@ -2,11 +2,11 @@
 use Rattle.std.proofs.Common.{◌≡◌, ℕ, ◌+◌, ◌*◌, ◌<◌, List, Some, None, Option, ap, ◌∙◌, subst}
 use Rattle.draft.specs.declared.fault.Fault.{Fault}
 use Rattle.layout.specs.declared.rows.BarRow.{BarRow}
-use Rattle.layout.specs.Faults.{prior, bar_fault}
+use Rattle.layout.specs.Faults.{prior}
 use Rattle.layout.proofs.BarTests.{prior_more}
 use Rattle.layout.proofs.FirstLaws.{first_of_more, first_of_stop}
 use Rattle.reader.specs.Decoded.{bar_at}
-use Rattle.reader.specs.Verdict.{ends, next_fault, bars_fault}
+use Rattle.reader.specs.Verdict.{next_fault, bars_fault}
 
 module _ (s a : List ℕ) (q k : ℕ) (before : Option BarRow) (is : before ≡ prior (λ i. bar_at s (q + 16 * i)) k) (clean : bars_fault s a q k ≡ None) where
   pub bars_more : next_fault s a before (q + 16 * k) ≡ None → bars_fault s a q (k + 1) ≡ None
@@ -17,10 +17,6 @@ module _ (s a : List ℕ) (q k : ℕ) (before : Option BarRow) (is : before ≡ 
 
 pub bars_all : (s a : List ℕ) (q k n : ℕ) → k ≡ n → bars_fault s a q k ≡ None → bars_fault s a q n ≡ None
 bars_all s a q k n e h = subst (λ (m : ℕ). bars_fault s a q m ≡ None) e h
-
--- a bar that does not end the sheet has the fault of its row
-pub next_fault_lem : (s a : List ℕ) (before : Option BarRow) (p : ℕ) (bar : BarRow) (f : Fault) → ends s p 16 ≡ None → bar ≡ bar_at s p → bar_fault a before bar p ≡ Some f → next_fault s a before p ≡ Some f
-next_fault_lem s a before p bar f e is h = rw e (subst (λ (b : BarRow). bar_fault a before b p ≡ Some f) is h)
 
 pub prior_next : (s : List ℕ) (q k : ℕ) (bar : BarRow) → bar ≡ bar_at s (q + 16 * k) → Some bar ≡ prior (λ i. bar_at s (q + 16 * i)) (k + 1)
 prior_next s q k bar is = ap (λ (b : BarRow). Some b) is ∙ prior_more (λ i. bar_at s (q + 16 * i)) k

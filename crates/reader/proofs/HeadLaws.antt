@@ -1,7 +1,6 @@
 -- The parts of a sheet's verdict put together.
-use Rattle.std.proofs.Common.{◌≡◌, ℕ, ◌+◌, ◌-◌, ◌*◌, ◌≤◌, List, length, take, Some, None, sym, ap, ◌∙◌, subst, arith}
+use Rattle.std.proofs.Common.{◌≡◌, ℕ, ◌+◌, ◌*◌, ◌≤◌, List, length, take, None, sym, ap, ◌∙◌, subst, arith}
 use Rattle.draft.specs.Limits.{Limits}
-use Rattle.draft.specs.declared.fault.Fault.{Fault}
 use Rattle.layout.specs.declared.rows.CourseRow.{CourseRow}
 use Rattle.bits.specs.Bits.{val}
 use Rattle.layout.specs.Layout.{counts_of}
@@ -9,7 +8,7 @@ use Rattle.bits.proofs.BitLaws.{val_lt}
 use Rattle.layout.proofs.CountLaws.{counts_length}
 use Rattle.reader.specs.Decoded.{course_at, course_rows, course_count, place, label, bars_place, bar_count}
 use Rattle.reader.specs.Passes.{Started, Courses, HeadOf}
-use Rattle.reader.specs.Verdict.{courses_fault, tail_fault, verdict}
+use Rattle.reader.specs.Verdict.{start_fault, courses_fault, tail_fault, verdict}
 use Rattle.reader.proofs.Places.{decoded_count}
 use Rattle.reader.proofs.RowLaws.{length-rows_of}
 
@@ -25,37 +24,34 @@ rows_limits s n few many =
           (omega arith, omega arith),
     )
 
+-- the sheet's verdict, and what it holds, by what the passes over its start and its courses found
 module _ (s : List ℕ) (n labels : ℕ) (rows : List CourseRow) (start : Started s n) (courses : Courses s n (rows, labels)) where
-  front : take (n - 0) rows ≡ course_rows s (course_count s)
-  front =
-      let z : n - 0 ≡ n = omega arith in
-      ap (λ (k : ℕ). take k rows) z ∙ courses.rows ∙ ap (course_rows s) start.count
+  front : take n rows ≡ course_rows s (course_count s)
+  front = courses.rows ∙ ap (course_rows s) start.count
 
-  end : 9 + 9 * n + 8 * labels ≡ bars_place s
-  end = let e = ap (label s) start.count in omega (arith, start.count, courses.labels)
-
-  pub tail_limits : Limits (counts_of (take (n - 0) rows))
+  pub tail_limits : Limits (counts_of (take n rows))
   tail_limits =
       subst (λ (r : List CourseRow). Limits (counts_of r)) (sym front) (rows_limits s (course_count s) (omega (arith, start.few, start.count)) (omega (arith, start.many, start.count)))
 
-  moved : tail_fault s (counts_of (take (n - 0) rows)) (9 + 9 * n + 8 * labels) ≡ tail_fault s (counts_of (course_rows s (course_count s))) (bars_place s)
-  moved = λ i. tail_fault s (counts_of (front i)) (end i)
+  module _ (p : ℕ) (at : p ≡ 9 + 9 * n + 8 * labels) (started : start_fault s ≡ None) (good : courses_fault s n ≡ None) where
+    end : p ≡ bars_place s
+    end = let e = ap (label s) start.count in omega (arith, start.count, courses.labels)
 
-  clean : courses_fault s (course_count s) ≡ None
-  clean = subst (λ (k : ℕ). courses_fault s k ≡ None) start.count courses.clean
+    moved : tail_fault s (counts_of (take n rows)) p ≡ tail_fault s (counts_of (course_rows s (course_count s))) (bars_place s)
+    moved = λ i. tail_fault s (counts_of (front i)) (end i)
 
-  pub tail_fault_lem : (f : Fault) → tail_fault s (counts_of (take (n - 0) rows)) (9 + 9 * n + 8 * labels) ≡ Some f → verdict s ≡ Some f
-  tail_fault_lem f h = rw (start.clean, clean) (sym moved ∙ h)
+    clean : courses_fault s (course_count s) ≡ None
+    clean = subst (λ (k : ℕ). courses_fault s k ≡ None) start.count good
 
-  pub head_of : (m : ℕ) → tail_fault s (counts_of (take (n - 0) rows)) (9 + 9 * n + 8 * labels) ≡ None → m ≡ val s (9 + 9 * n + 8 * labels) 12 → HeadOf s (record { rows = rows; counts = record { courses = n; choices = labels; bars = m } })
-  head_of m h e =
-      let labels-is : labels ≡ label s (course_count s) = courses.labels ∙ ap (label s) start.count in
-      let bars_is : m ≡ bar_count s = e ∙ ap (λ (p : ℕ). val s p 12) end in
-      let count = start.count in
-      record {
-        clean = rw (start.clean, clean) (sym moved ∙ h);
-        counts = λ i. record { courses = count i; choices = labels-is i; bars = bars_is i };
-        rows = subst (λ (k : ℕ). take k rows ≡ course_rows s k) start.count courses.rows;
-        table = courses.table;
-        many = omega (arith, start.many);
-      }
+    pub whole_verdict : tail_fault s (counts_of (take n rows)) p ≡ verdict s
+    whole_verdict = rw (started, clean) moved
+
+    pub head_of : (m : ℕ) (few : n ≤ 24) → m ≡ val s p 12 → HeadOf s (record { rows = rows; counts = record { courses = n; choices = labels; bars = m }; few = few })
+    head_of m few e =
+        let labels-is : labels ≡ label s (course_count s) = courses.labels ∙ ap (label s) start.count in
+        let bars_is : m ≡ bar_count s = e ∙ ap (λ (q : ℕ). val s q 12) end in
+        let count = start.count in
+        record {
+          counts = λ i. record { courses = count i; choices = labels-is i; bars = bars_is i };
+          rows = courses.rows ∙ ap (course_rows s) start.count;
+        }

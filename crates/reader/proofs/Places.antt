@@ -1,7 +1,7 @@
 -- Where the courses of a sheet lie.
-use Rattle.std.proofs.Common.{◌≡◌, ℕ, zero, suc, ◌+◌, ◌*◌, ◌<◌, ◌≤◌, List, [], ◌∷◌, ◌++◌, length, get_or, take, set, Some, None, sym, refl, ap, ◌∙◌, subst, ⊎_elim, add-one, arith}
+use Rattle.std.proofs.Common.{◌≡◌, ℕ, zero, suc, ◌+◌, ◌*◌, ◌<◌, ◌≤◌, List, ◌++◌, length, get_or, take, set, Some, None, sym, refl, ap, ◌∙◌, subst, ⊎_elim, add-one, arith}
 use lib.Arith.{le-zero}
-use Rattle.std.proofs.lemmas.List.{length-append, take_more_set, get_or-map}
+use Rattle.std.proofs.lemmas.List.{length-append, take_at, get_or-map}
 use Rattle.std.proofs.lemmas.Bool.{cases_eq}
 use Rattle.draft.specs.declared.fault.Fault.{Fault}
 use Rattle.layout.specs.declared.rows.ChoiceRow.{ChoiceRow}
@@ -9,9 +9,9 @@ use Rattle.layout.specs.declared.rows.CourseRow.{CourseRow}
 use Rattle.bits.specs.Bits.{val}
 use Rattle.layout.specs.Layout.{counts_of}
 use Rattle.layout.proofs.FirstLaws.{first_of_more, first_of_stop}
-use Rattle.reader.specs.Decoded.{label, place, course_at, choice_at, course_rows, choice_rows, own_choices, rows_of, written}
+use Rattle.reader.specs.Decoded.{label, place, course_at, choice_at, course_rows, choice_rows, own_choices, rows_of}
 use Rattle.reader.specs.Verdict.{course_fault, courses_fault}
-use Rattle.reader.proofs.RowLaws.{length-rows_of, get_or-rows_of, rows_of_more, written_twice}
+use Rattle.reader.proofs.RowLaws.{length-rows_of, get_or-rows_of, front_more, front_all}
 
 -- one course more
 pub label_next : (s : List ℕ) (c p : ℕ) → p ≡ place s c → label s (c + 1) ≡ label s c + val s p 3 + 1
@@ -44,9 +44,11 @@ count_at s cs c p is h at =
 
 -- one row more in a table of courses
 pub table_more : (s : List ℕ) (rows : List CourseRow) (c p : ℕ) (row : CourseRow) → p ≡ place s c → row ≡ course_at s p → c < length rows → take c rows ≡ course_rows s c → take (c + 1) (set rows c row) ≡ course_rows s (c + 1)
-table_more s rows c p row at is h e =
-    let here : row ≡ course_at s (place s c) = is ∙ ap (course_at s) at in
-    take_more_set rows c row h ∙ (λ i. e i ++ (here i ∷ [])) ∙ sym (rows_of_more (λ k. course_at s (place s k)) c)
+table_more s rows c p row at is h e = front_more (λ k. course_at s (place s k)) rows c row e (is ∙ ap (course_at s) at) h
+
+-- the table when each of its n places has a row
+pub table_done : (s : List ℕ) (items rest : List CourseRow) (c n : ℕ) → take c items ≡ course_rows s c → c ≡ n → length items ≡ n → take n (items ++ rest) ≡ course_rows s n
+table_done s items rest c n e is l = take_at items rest n l ∙ front_all (λ k. course_at s (place s k)) items c n e is (sym l)
 
 pub length-choice_rows : (s : List ℕ) (c : ℕ) → length (choice_rows s c) ≡ label s c
 length-choice_rows s zero = refl
@@ -54,8 +56,8 @@ length-choice_rows s (suc c) =
     length-append (choice_rows s c) _ ∙ omega (arith, length-choice_rows s c, length-rows_of (λ k. choice_at s (place s c + 9 + 8 * k)) (val s (place s c) 3 + 1))
 
 -- the choices of one course more
-pub choices_filled : (s : List ℕ) (c p n : ℕ) → p ≡ place s c → n ≡ val s p 3 + 1 → (xs ys zs : List ChoiceRow) (t : ℕ) → t ≡ label s c → ys ≡ written xs 0 (choice_rows s c) → zs ≡ written ys t (rows_of (λ k. choice_at s (p + 9 + 8 * k)) n) → zs ≡ written xs 0 (choice_rows s (c + 1))
-choices_filled s c p n at count xs ys zs t lab e f =
+pub choices_more : (s : List ℕ) (c p n : ℕ) (rows own : List ChoiceRow) → p ≡ place s c → n ≡ val s p 3 + 1 → rows ≡ choice_rows s c → own ≡ rows_of (λ k. choice_at s (p + 9 + 8 * k)) n → rows ++ own ≡ choice_rows s (c + 1)
+choices_more s c p n rows own at count front is =
     let moved : rows_of (λ k. choice_at s (p + 9 + 8 * k)) n ≡ own_choices s c =
     ap (rows_of (λ k. choice_at s (p + 9 + 8 * k))) count ∙ ap (λ (q : ℕ). rows_of (λ k. choice_at s (q + 9 + 8 * k)) (val s q 3 + 1)) at in
-    f ∙ ap (written ys t) moved ∙ written_twice xs ys (choice_rows s c) _ t (length-choice_rows s c ∙ sym lab) e ∙ ap (λ (m : ℕ). written xs 0 (choice_rows s m)) (sym (add-one c))
+    (λ i. front i ++ (is ∙ moved) i) ∙ ap (choice_rows s) (sym (add-one c))

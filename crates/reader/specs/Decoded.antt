@@ -5,7 +5,7 @@
 --   place s c        the bit where course c begins
 --   course_rows s n  the rows of the first n courses; choice_rows and bar_rows likewise
 --   counts s         the numbers of courses, choices and bars
-use Rattle.std.specs.Prelude.{ℕ, zero, suc, ◌+◌, ◌*◌, List, [], ◌++◌, map, length, take, drop}
+use Rattle.std.specs.Prelude.{ℕ, zero, suc, ◌+◌, ◌*◌, List, [], ◌++◌, map}
 use Rattle.std.specs.List.{range_with_len}
 use Rattle.layout.specs.declared.rows.BarRow.{BarRow}
 use Rattle.layout.specs.declared.rows.ChoiceRow.{ChoiceRow}
@@ -65,7 +65,3 @@ bar_rows s q = rows_of (λ k. bar_at s (q + 16 * k))
 -- how many rows of each kind the sheet has
 abbrev pub counts : List ℕ → Counts
 counts s = record { courses = course_count s; choices = label s (course_count s); bars = bar_count s }
-
--- the list xs with these rows in the places from t on
-abbrev pub written : {X : Type 0} → List X → ℕ → List X → List X
-written xs t rows = take t xs ++ (rows ++ drop (t + length rows) xs)

@@ -4,15 +4,17 @@
 --   courses_fault s n  the first fault of the first n courses
 --   tail_fault s a q   the first fault from the number of bars, at bit q, to the end
 --   verdict s          the first fault of the sheet s
---   read_fault s ..    that, or want of memory for its rows
+--   room_fault n ..    want of memory for n rows
+--   read_fault s ..    the first fault of the sheet s, or want of memory for its rows
 use Rattle.std.specs.Prelude.{ℕ, ◌+◌, ◌-◌, ◌*◌, ◌/◌, ◌&&◌, List, length, Option, ◌==◌, nat_le}
 use Rattle.draft.specs.declared.fault.Fault.{Fault}
 use Rattle.draft.specs.declared.refusal.Refusal.TheVariants.{SheetEnds, Edition, Limit, Evening, Filling, Memory}
 use Rattle.layout.specs.declared.rows.BarRow.{BarRow}
+use Rattle.layout.specs.declared.rows.Counts.{Counts}
 use Rattle.bits.specs.Bits.{bit, val}
 use Rattle.layout.specs.Faults.{first, first_of, unless, prior, bar_fault}
 use Rattle.layout.specs.Layout.{counts_of}
-use Rattle.reader.specs.Decoded.{bar_at, place, label, course_count, bars_place, bar_count, course_rows}
+use Rattle.reader.specs.Decoded.{bar_at, place, course_count, bars_place, course_rows, counts}
 
 -- the sheet ends inside the field of w bits at p
 abbrev pub ends : List ℕ → ℕ → ℕ → Option Fault
@@ -72,8 +74,11 @@ verdict s =
     first (start_fault s)
     (first (courses_fault s (course_count s)) (tail_fault s (counts_of (course_rows s (course_count s))) (bars_place s)))
 
+-- want of memory for so many rows in lists of these lengths
+abbrev pub room_fault : Counts → ℕ → ℕ → ℕ → Option Fault
+room_fault n courses choices bars =
+    unless (nat_le n.courses courses && (nat_le n.choices choices && nat_le n.bars bars)) Memory 0
+
 -- the first fault of a reading into lists of these lengths: want of memory comes last
 abbrev pub read_fault : List ℕ → ℕ → ℕ → ℕ → Option Fault
-read_fault s courses choices bars =
-    first (verdict s)
-    (unless (nat_le (course_count s) courses && (nat_le (label s (course_count s)) choices && nat_le (bar_count s) bars)) Memory 0)
+read_fault s courses choices bars = first (verdict s) (room_fault (counts s) courses choices bars)

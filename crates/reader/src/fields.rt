@@ -1,41 +1,35 @@
 // Fields of bits in bytes, most significant bit first.
-ghost use Rattle.std.specs.Prelude.{◌≡◌, ◌+◌, ◌/◌, ◌^◌, ◌<◌, ◌≤◌, Some, None, MatchResult};
-ghost use Rattle.bits.specs.Bits.{bit, val};
+ghost use Rattle.std.specs.Prelude.{◌≡◌, ◌^◌, ◌<◌, ◌≤◌};
+ghost use Rattle.bits.specs.Bits.{val};
+ghost use Rattle.reader.specs.Passes.{Yields};
 ghost use Rattle.reader.specs.Verdict.{ends};
 
+use bits::bit_at;
 use draft::fault::Fault;
 use draft::refusal::Refusal;
-
-// Bit `k`, and 0 past the end.
-pub(crate) fn bit_at(sheet: &[u8], k: usize) -> u8
-    ensures { result ≡ bit sheet.now k }
-{
-    bits::bit_at(sheet, k)
-}
+use layout::faults::ensure;
 
 // The number that the `width` bits from `at` on mean, with zeros past the end.
 pub(crate) fn value(sheet: &[u8], at: usize, width: u8) -> u16
-    requires { (at < 2 ^ 32) × (width ≤ 16) }
-    ensures reads { result ≡ val sheet.now at width }
-    ensures small { result < 2 ^ width }
+    requires early { at < 2 ^ 32 }
+    requires narrow { width ≤ 16 }
+    ensures value { result ≡ val sheet.now at width }
+    ensures bound { result < 2 ^ width }
 {
-    let mut v: u16 = 0;
+    let mut v = 0;
     for i in 0..width {
-        v = v * 2 + bit_at(sheet, at + i as usize) as u16;
+        v = v * 2 + u16::from(bit_at(sheet, at + usize::from(i)));
     }
     v
 }
 
 // The field of `width` bits at `at`, unless the sheet ends inside it.
 pub(crate) fn field(sheet: &[u8], at: usize, width: u8) -> Result<u16, Fault>
-    requires { (at < 2 ^ 32) × (width ≤ 16) }
-    ensures { MatchResult result (λ v. (ends sheet.now at width ≡ None) × (v ≡ val sheet.now at width) × (v < 2 ^ width)) (λ f. ends sheet.now at width ≡ Some f) }
+    requires early { at < 2 ^ 32 }
+    requires narrow { width ≤ 16 }
+    ensures value { Yields (ends sheet.now at width) (λ v. (v ≡ val sheet.now at width) × (v < 2 ^ width)) result }
 {
-    if (at + width as usize + 7) / 8 > sheet.len() {
-        return Err(Fault::Sheet {
-            refusal: Refusal::SheetEnds,
-            bit: at,
-        });
-    }
+    let bytes = (at + usize::from(width)).div_ceil(8);
+    ensure(bytes <= sheet.len(), Refusal::SheetEnds, at)?;
     Ok(value(sheet, at, width))
 }

@@ -1,25 +1,18 @@
 // The second pass of a reading: the rows of a good sheet, written into the caller's lists.
-ghost use Rattle.std.specs.Prelude.{◌≡◌, ◌+◌, ◌*◌, ◌^◌, ◌<◌, ◌≤◌, length};
-ghost use Rattle.reader.specs.Decoded.{rows_of, choice_at, course_rows, choice_rows, bar_rows, label, written};
+ghost use Rattle.std.specs.Prelude.{◌≡◌, ◌+◌, ◌*◌, ◌^◌, ◌<◌, ◌≤◌, length, take, drop};
+ghost use Rattle.reader.specs.Decoded.{rows_of, course_rows, choice_rows, label};
 
-use crate::decode::{bar_at, choice_at};
-use layout::rows::{BarRow, ChoiceRow, CourseRow};
+use crate::courses::place;
+use crate::decode::Decode;
+use layout::rows::{ChoiceRow, CourseRow};
 
-// Writes the rows into the front of `courses`.
-pub(crate) fn fill_courses(rows: &[CourseRow], courses: &mut [CourseRow])
-    requires { length rows.now ≤ length courses.old }
-    ensures { courses.new ≡ written courses.old 0 rows.now }
+// Writes the rows that stand in the sheet from `at` on, as many as `rows` has.
+pub(crate) fn fill<R: Decode>(sheet: &[u8], at: usize, rows: &mut [R])
+    requires early { at + R.BITS * length rows.old < 2 ^ 30 }
+    ensures value { rows.new ≡ rows_of (λ k. R.row_at sheet.now (at + R.BITS * k)) (length rows.old) }
 {
-    courses[0..rows.len()].copy_from_slice(rows);
-}
-
-// Writes the `count` choices that stand in the sheet from `at` on into the rows from `first` on.
-fn fill_own(sheet: &[u8], at: usize, count: usize, choices: &mut [ChoiceRow], first: usize)
-    requires { (at < 2 ^ 29) × ((count ≤ 8) × (first + count ≤ length choices.old)) }
-    ensures { choices.new ≡ written choices.old first (rows_of (λ k. choice_at sheet.now (at + 8 * k)) count) }
-{
-    for k in 0..count {
-        choices[first + k] = choice_at(sheet, at + 8 * k);
+    for (k, row) in rows.iter_mut().enumerate() {
+        *row = R::decode(sheet, at + R::BITS * k);
     }
 }
 
@@ -28,24 +21,14 @@ pub(crate) fn fill_choices(sheet: &[u8], courses: &[CourseRow], choices: &mut [C
     requires few { length courses.now ≤ 24 }
     requires rows { courses.now ≡ course_rows sheet.now (length courses.now) }
     requires room { label sheet.now (length courses.now) ≤ length choices.old }
-    ensures { choices.new ≡ written choices.old 0 (choice_rows sheet.now (length courses.now)) }
+    ensures front { let n = length courses.now in take (label sheet.now n) choices.new ≡ choice_rows sheet.now n }
+    ensures rest { let t = label sheet.now (length courses.now) in drop t choices.new ≡ drop t choices.old }
 {
-    let mut at = 9;
     let mut labels = 0;
-    for c in 0..courses.len() {
-        let count = courses[c].choices as usize;
-        fill_own(sheet, at + 9, count, choices, labels);
-        at += 9 + 8 * count;
-        labels += count;
-    }
-}
-
-// Writes the `count` bars that stand in the sheet from `at` on into the front of `bars`.
-pub(crate) fn fill_bars(sheet: &[u8], at: usize, count: usize, bars: &mut [BarRow])
-    requires { (at < 2 ^ 20) × ((count ≤ 4095) × (count ≤ length bars.old)) }
-    ensures { bars.new ≡ written bars.old 0 (bar_rows sheet.now at count) }
-{
-    for k in 0..count {
-        bars[k] = bar_at(sheet, at + 16 * k);
+    for (c, row) in courses.iter().enumerate() {
+        let end = labels + usize::from(row.choices);
+        // The course's choices follow its first 9 bits.
+        fill(sheet, place(c, labels) + 9, &mut choices[labels..end]);
+        labels = end;
     }
 }

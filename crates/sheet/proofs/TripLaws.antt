@@ -1,22 +1,21 @@
 -- Reading and writing undo each other.
-use Rattle.std.proofs.Common.{◌≡◌, ℕ, ◌-◌, ◌<◌, ◌≤◌, Bool, true, false, ◌&&◌, leb, List, ◌++◌, length, take, drop, Some, None, Ok, Err, Decides, Option, sym, refl, ap, ◌∙◌, subst, ⊎_elim, arith, take-append-drop}
-use native.Mathlib.Nat.{sub-zero}
+use Rattle.std.proofs.Common.{◌≡◌, ℕ, ◌<◌, ◌≤◌, ◌&&◌, leb, List, ◌++◌, length, take, drop, Some, None, Ok, Err, Option, Result, sym, ap, ◌∙◌, subst, ⊎_elim, arith, take-append-drop}
+use Rattle.std.specs.Prelude.{MatchResult, IsTrue, ◌↔◌}
 use Rattle.std.proofs.lemmas.List.{get_or-take, get_or_past, length-take}
-use Rattle.std.proofs.lemmas.Bool.{le-leb, lt-leb, leb-true, and_parts, cases_lt}
+use Rattle.std.proofs.lemmas.Bool.{le-leb, leb-true, and_parts, cases_lt}
 use Rattle.draft.specs.declared.fault.Fault.{Fault}
-use Rattle.draft.specs.declared.fault.Fault.TheVariants.{Sheet}
 use Rattle.draft.specs.declared.refusal.Refusal.TheVariants.{Memory}
 use Rattle.layout.specs.declared.rows.BarRow.{BarRow}
 use Rattle.layout.specs.declared.rows.ChoiceRow.{ChoiceRow}
 use Rattle.layout.specs.declared.rows.Counts.{Counts}
 use Rattle.layout.specs.declared.rows.CourseRow.{CourseRow}
 use Rattle.bits.specs.Bits.{Bytes}
-use Rattle.layout.specs.Faults.{first, unless}
+use Rattle.layout.specs.Faults.{unless}
 use Rattle.layout.specs.Layout.{IsSheet, bytes_of}
 use Rattle.layout.proofs.FirstLaws.{first_none, first_both, unless_none, unless_holds}
 use Rattle.layout.proofs.UniqueLaws.{one_sheet, one_reading}
 use Rattle.reader.specs.Decoded.{course_count, label, bar_count}
-use Rattle.reader.specs.Reading.{Reading}
+use Rattle.reader.specs.Reading.{Filled, Reading}
 use Rattle.reader.specs.Verdict.{verdict, read_fault}
 use Rattle.reader.proofs.AcceptLaws.{sheet_clean}
 use Rattle.reader.proofs.CleanLaws.{clean_sheet}
@@ -24,7 +23,8 @@ use Rattle.writer.specs.RowFaults.{rows_fault, write_fault}
 use Rattle.writer.specs.Writing.{Writing, Wrote}
 use Rattle.writer.proofs.RowLaws.{rows_lawful, lawful_rows}
 use Rattle.sheet.specs.Exactly.{ReadsSheets, WritesLawful}
-use Rattle.sheet.specs.Rechecking.{recheck_fault, Agrees}
+use Rattle.sheet.specs.Rechecking.{recheck_fault, Rechecking}
+use Rattle.sheet.specs.declared.checked.Checked.{Checked}
 use Rattle.sheet.specs.RoundTrip.{ReadsBack, WritesBack}
 
 none_some : {X : Type 0} (o : Option X) (x : X) → o ≡ None → o ≡ Some x → ⊥
@@ -98,36 +98,24 @@ filled_room s xs xs' ys ys' zs zs' n r =
     let m = ap (λ (k : Counts). k.bars) r.answer in
     (omega (arith, leb-true _ _ b.0), omega (arith, leb-true _ _ d.0), omega (arith, leb-true _ _ d.1))
 
--- want of memory is the last fault of a check
-pub late_fault : (s : List ℕ) (room : ℕ) → room < length s → verdict s ≡ None → (lc lh lb : ℕ) → recheck_fault s lc lh lb room ≡ Some (Sheet Memory 0)
-late_fault s room short clean lc lh lb =
-    rw (clean, lt-leb (length s) room short) (either (leb (course_count s) lc && (leb (label s (course_count s)) lh && leb (bar_count s) lb)))
-  where
-    either : (ok : Bool) → first (unless ok Memory 0) (Some (Sheet Memory 0)) ≡ Some (Sheet Memory 0)
-    either true = refl
-    either false = refl
-
-pub sheet_fault : (s : List ℕ) (room : ℕ) (f : Fault) → verdict s ≡ Some f → (lc lh lb : ℕ) → recheck_fault s lc lh lb room ≡ Some f
-sheet_fault s room f e lc lh lb = rw e
-
 pub no_fault : (s : List ℕ) (lc lh lb lo : ℕ) → length s ≤ lo → read_fault s lc lh lb ≡ None → recheck_fault s lc lh lb lo ≡ None
 no_fault s lc lh lb lo room e = first_both (read_fault s lc lh lb) _ e (unless_holds _ Memory 0 (le-leb (length s) lo room))
 
--- parts from the start of the lists
-pub sheet_parts : (s : List ℕ) (xs : List CourseRow) (ys : List ChoiceRow) (zs : List BarRow) (n t m : ℕ) → IsSheet s (take n xs) (take t ys) (take m zs) → IsSheet s (take (n - 0) xs) (take (t - 0) ys) (take (m - 0) zs)
-sheet_parts s xs ys zs n t m h = rw (sub-zero n, sub-zero t, sub-zero m) h
-
 -- what was read and written again agrees
-pub agrees : (s : List ℕ) (xs xs' : List CourseRow) (ys ys' : List ChoiceRow) (zs zs' : List BarRow) (t u : List ℕ) (n : Counts) (m : ℕ) (same : Bool) → Reading s xs xs' ys ys' zs zs' (Ok n) → Bytes s → Bytes u → length s ≤ length t → Wrote (take (n.courses - 0) xs') (take (n.choices - 0) ys') (take (n.bars - 0) zs') t u m → Decides same (take m u ≡ s) → Agrees s xs xs' ys ys' zs zs' t u (record { counts = n; bytes = m; same = same })
-agrees s xs xs' ys ys' zs zs' t u n m same r bs bu room w d =
-    let again = written_again s _ _ _ (sheet_parts s xs' ys' zs' n.courses n.choices n.bars r.sheet) t u room m w bs bu in
+pub agrees : (s : List ℕ) (xs xs' : List CourseRow) (ys ys' : List ChoiceRow) (zs zs' : List BarRow) (t u : List ℕ) (n : Counts) → Reading s xs xs' ys ys' zs zs' (Ok n) → Bytes s → Bytes u → length s ≤ length t
+    → (r : Result Checked Fault) → MatchResult r (λ k. Wrote (take n.courses xs') (take n.choices ys') (take n.bars zs') t u k.bytes) (λ _. ⊥)
+    → MatchResult r (λ k. IsTrue k.same ↔ (take k.bytes u ≡ s)) (λ _. ⊥) → MatchResult r (λ k. k.counts ≡ n) (λ _. ⊥)
+    → Rechecking s xs xs' ys ys' zs zs' t u r
+agrees s xs xs' ys ys' zs zs' t u n read bs bu room (Ok k) wrote compared counted =
+    let again = written_again s _ _ _ read.sheet t u room k.bytes wrote bs bu in
     record {
-      clean = no_fault s (length xs) (length ys) (length zs) (length t) room r.clean;
-      rows = r;
+      clean = no_fault s (length xs) (length ys) (length zs) (length t) room read.clean;
+      rows = subst (λ m. Filled s xs xs' ys ys' zs zs' m) (sym counted) read;
       bytes = again.0;
-      same = d.1 again.1;
+      same = compared.1 again.1;
       written = again.2;
     }
+agrees s xs xs' ys ys' zs zs' t u n read bs bu room (Err f) wrote compared counted = absurd wrote
 
 -- what is accepted
 pub reads_sheets : ReadsSheets

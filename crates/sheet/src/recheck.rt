@@ -1,5 +1,5 @@
 // Reads a sheet, writes it again and compares.
-ghost use Rattle.std.specs.Prelude.{◌≡◌, ℕ, ◌<◌, ◌≤◌, length, take, Some, Decides, MatchResult};
+ghost use Rattle.std.specs.Prelude.{◌≡◌, ℕ, ◌<◌, ◌≤◌, ◌↔◌, length, take, Some, IsTrue, MatchResult};
 ghost use Rattle.layout.specs.Layout.{IsSheet};
 ghost use Rattle.layout.specs.Unique.{OneSheet, OneReading};
 ghost use Rattle.writer.specs.Writing.{Wrote};
@@ -10,7 +10,7 @@ ghost use Rattle.sheet.specs.RoundTrip.{ReadsBack, WritesBack};
 use crate::checked::Checked;
 use draft::fault::Fault;
 use draft::refusal::Refusal;
-use layout::rows::{BarRow, ChoiceRow, Counts, CourseRow};
+use layout::rows::{BarRow, ChoiceRow, Counts, CourseRow, Rows};
 use reader::check::check;
 use reader::read::read;
 use writer::write::write;
@@ -29,22 +29,20 @@ fn short_fault(sheet: &[u8], room: usize) -> Fault
     }
 }
 
-// Writes the rows of the sheet into `out`, and answers how many bytes that takes and whether they are the sheet.
-fn write_again(
-    sheet: &[u8],
-    courses: &[CourseRow],
-    choices: &[ChoiceRow],
-    bars: &[BarRow],
-    out: &mut [u8],
-) -> Result<(usize, bool), Fault>
-    requires rows { IsSheet sheet.now courses.now choices.now bars.now }
+// Writes the rows of the sheet into `out`, and compares.
+fn write_again(sheet: &[u8], counts: Counts, rows: &Rows, out: &mut [u8]) -> Result<Checked, Fault>
+    requires rows { IsSheet sheet.now rows.now.courses.now rows.now.choices.now rows.now.bars.now }
     requires room { length sheet.now ≤ length out.old }
-    ensures wrote { MatchResult result (λ k. Wrote courses.now choices.now bars.now out.old out.new k.0) (λ _. ⊥) }
-    ensures compared { MatchResult result (λ k. Decides k.1 (take k.0 out.new ≡ sheet.now)) (λ _. ⊥) }
+    ensures wrote { MatchResult result (λ k. Wrote rows.now.courses.now rows.now.choices.now rows.now.bars.now out.old out.new k.bytes) (λ _. ⊥) }
+    ensures compared { MatchResult result (λ k. IsTrue k.same ↔ (take k.bytes out.new ≡ sheet.now)) (λ _. ⊥) }
+    ensures counted { MatchResult result (λ k. k.counts ≡ counts) (λ _. ⊥) }
 {
-    let bytes = write(courses, choices, bars, out)?;
-    let same = &out[0..bytes] == sheet;
-    Ok((bytes, same))
+    let bytes = write(rows, out)?;
+    Ok(Checked {
+        counts,
+        bytes,
+        same: &out[..bytes] == sheet,
+    })
 }
 
 // Reads the sheet, writes its rows into `out` and compares.
@@ -59,17 +57,12 @@ fn both_ways(
     ensures cases { Rechecking sheet.now courses.old courses.new choices.old choices.new bars.old bars.new out.old out.new result }
 {
     let counts = read(sheet, courses, choices, bars)?;
-    let Counts {
-        courses: n,
-        choices: t,
-        bars: m,
-    } = counts;
-    let (bytes, same) = write_again(sheet, &courses[0..n], &choices[0..t], &bars[0..m], out)?;
-    Ok(Checked {
-        counts,
-        bytes,
-        same,
-    })
+    let rows = Rows {
+        courses: &courses[..counts.courses],
+        choices: &choices[..counts.choices],
+        bars: &bars[..counts.bars],
+    };
+    write_again(sheet, counts, &rows, out)
 }
 
 // Fills the lists with the sheet's rows, and the front of `out` with the sheet written again.

@@ -1,5 +1,1 @@
-pub mod MarkLaws
-pub mod PackedProofs
-pub mod RowLaws
-pub mod RuleProofs
-pub mod WhatIfProofs
+pub mod Strikes

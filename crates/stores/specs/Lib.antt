@@ -1,3 +1,5 @@
+pub mod FrameLaws
+pub mod MarkLaws
 pub mod Marks
 pub mod Packed
 pub mod PackedLaws

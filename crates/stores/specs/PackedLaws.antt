@@ -4,19 +4,18 @@ use Rattle.std.proofs.Common.{ap, ◌∙◌}
 use Rattle.bits.specs.Bits.{is_set}
 use Rattle.draft.specs.Drafts.{Lawful, whole}
 use Rattle.draft.specs.Frames.{Preorder}
-use Rattle.draft.specs.Labels.{label, pair_number}
+use Rattle.draft.specs.Labels.{pair_number}
 use Rattle.draft.specs.Shapes.{counts}
 use Rattle.draft.specs.declared.shape.Shape.{Shape}
 use Rattle.draft.proofs.DraftLaws.{whole_lawful, restrict_lawful}
-use Rattle.draft.proofs.PairLaws.{between_swap}
+use Rattle.draft.proofs.PairLaws.{number_swap}
 use Rattle.draft.proofs.ShapeLaws.{limits}
 use Rattle.stores.specs.Packed.{packed_draft, PackedFrame}
 
 pub packed_laws : (s : Shape) (bytes : List ℕ) → Lawful (packed_draft (counts s) bytes)
 packed_laws s bytes =
-    restrict_lawful (whole (counts s)) (λ i b j c. is_set bytes (pair_number (counts s) i b j c))
-    (λ i b j c. ap (is_set bytes) (between_swap (label (counts s) i b) (label (counts s) j c)))
-    (whole_lawful (counts s) (limits s))
+    let a = counts s in
+    restrict_lawful (whole a) (λ p. is_set bytes (pair_number a p)) (λ p. ap (is_set bytes) (number_swap a p)) (whole_lawful a (limits s))
 
 pub packed_preorder : {S : Type 0} (a : S → List ℕ) (m : S → ℕ) (xs : S → List ℕ) → Preorder (λ (s t : S). PackedFrame (a s) (m s) (xs s) (a t) (m t) (xs t))
 packed_preorder a m xs = record {

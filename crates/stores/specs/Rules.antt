@@ -4,16 +4,17 @@
 --   known       a choice's course row and choice row are there, and the choice row makes a record
 --   allowed     both choices are known and do not clash
 --   rule_draft  the allowed pairings that have no mark
---   RuleFrame   what strikes leave: the shape and both lists of rows
+--   FitsAt      a course row fits its course
 --   Matches     the rows fit the shape
 --   RowsTold    what the opening answers
-use Rattle.std.specs.Prelude.{◌≡◌, ℕ, ◌<◌, ◌≤◌, Bool, not, ◌&&◌, ◌||◌, ◌⊎◌, List, length, take, is_some, Some, None, Ok, Err, sum, Result, ◌==◌, nat_lt, slice_index_or}
+use Rattle.std.specs.Prelude.{◌≡◌, ℕ, ◌<◌, ◌≤◌, Bool, not, ◌&&◌, ◌||◌, ◌⊎◌, List, length, take, is_some, Some, None, Ok, Err, sum, Result, ◌==◌, nat_lt, slice_index, slice_index_or}
 use Rattle.std.specs.List.{AllByRecursion}
 use Rattle.draft.specs.Drafts.{Draft, whole, restrict}
 use Rattle.draft.specs.Labels.{label, pair_number}
+use Rattle.draft.specs.declared.pairing.Pairing.{Pairing}
+use Rattle.draft.specs.declared.pairing.Side.{Side}
 use Rattle.draft.specs.declared.refusal.Refusal.{Refusal}
 use Rattle.draft.specs.declared.refusal.Refusal.TheVariants.{Limit}
-use Rattle.draft.specs.declared.shape.Shape.{Shape}
 use Rattle.layout.specs.Layout.{counts_of}
 use Rattle.layout.specs.Records.{refusal_of}
 use Rattle.layout.specs.declared.rows.ChoiceRow.{ChoiceRow}
@@ -25,27 +26,31 @@ abbrev pub clash : (t : ℕ) → ChoiceRow → (u : ℕ) → ChoiceRow → Bool
 clash t x u y = x.evening == y.evening && (x.room == y.room || t == u)
 
 -- course row i
-abbrev pub course_row : List CourseRow → (i : ℕ) → CourseRow
-course_row courses i = slice_index_or courses i record { teacher = 0; choices = 0 }
+abbrev pub course_at : List CourseRow → (i : ℕ) → CourseRow
+course_at courses i = slice_index_or courses i record { teacher = 0; choices = 0 }
 
--- the row of choice b of course i: the one at its label
-abbrev pub choice_row : List ℕ → List ChoiceRow → (i b : ℕ) → ChoiceRow
-choice_row a choices i b = slice_index_or choices (label a i b) record { evening = 0; room = 0 }
+-- the row of a choice's course
+abbrev pub course_row : List CourseRow → Side → CourseRow
+course_row courses x = course_at courses x.course
+
+-- the row of a choice: the one at its label
+abbrev pub choice_row : List ℕ → List ChoiceRow → Side → ChoiceRow
+choice_row a choices x = slice_index_or choices (label a x) record { evening = 0; room = 0 }
 
 -- a row makes a choice record: nothing refuses it
 abbrev pub makes : ChoiceRow → Bool
 makes h = not (is_some (refusal_of h))
 
--- neither row of choice b of course i is missing, and its choice row makes a record
-abbrev pub known : List ℕ → List CourseRow → List ChoiceRow → (i b : ℕ) → Bool
-known a courses choices i b = nat_lt i (length courses) && (nat_lt (label a i b) (length choices) && makes (choice_row a choices i b))
+-- neither row of a choice is missing, and its choice row makes a record
+abbrev pub known : List ℕ → List CourseRow → List ChoiceRow → Side → Bool
+known a courses choices x = nat_lt x.course (length courses) && (nat_lt (label a x) (length choices) && makes (choice_row a choices x))
 
--- (i,b) and (j,c) are known and do not clash
-abbrev pub allowed : List ℕ → List CourseRow → List ChoiceRow → (i b j c : ℕ) → Bool
-allowed a courses choices i b j c =
-    known a courses choices i b
-    && (known a courses choices j c
-    && not (clash (course_row courses i).teacher (choice_row a choices i b) (course_row courses j).teacher (choice_row a choices j c)))
+-- both choices are known and do not clash
+abbrev pub allowed : List ℕ → List CourseRow → List ChoiceRow → Pairing → Bool
+allowed a courses choices p =
+    known a courses choices p.one
+    && (known a courses choices p.other
+    && not (clash (course_row courses p.one).teacher (choice_row a choices p.one) (course_row courses p.other).teacher (choice_row a choices p.other)))
 
 -- the draft of the shape with the counts a: the pairings without a clash
 abbrev pub clash_free : List ℕ → List CourseRow → List ChoiceRow → Draft
@@ -55,11 +60,9 @@ clash_free a courses choices = restrict (whole a) (allowed a courses choices)
 abbrev pub rule_draft : List ℕ → List CourseRow → List ChoiceRow → List ℕ → Draft
 rule_draft a courses choices marks = unmarked (clash_free a courses choices) (pair_number a) marks
 
--- two states of the shapes s and t, over the rows cs and hs, and ds and gs
-pub record RuleFrame (s : Shape) (cs : List CourseRow) (hs : List ChoiceRow) (t : Shape) (ds : List CourseRow) (gs : List ChoiceRow) : Type 0 where
-  pub shape : s ≡ t
-  pub courses : cs ≡ ds
-  pub choices : hs ≡ gs
+-- row i has the choice count of course i and a teacher of at most 63
+abbrev pub FitsAt : List ℕ → List CourseRow → (i : ℕ) → Type 0
+FitsAt a courses i = ((course_at courses i).choices ≡ slice_index a i) × ((course_at courses i).teacher ≤ 63)
 
 -- a course row for each course, with its choice count and a teacher of at most 63, and a choice row for each label
 pub record Matches (a : List ℕ) (courses : List CourseRow) (choices : List ChoiceRow) : Type 0 where

@@ -1,51 +1,62 @@
 // Which pairings course rows and choice rows allow.
-ghost use Rattle.std.specs.Prelude.{◌≡◌, true, ◌&&◌, length, is_some, IfSome, nat_lt, slice_index};
-ghost use Rattle.draft.specs.Labels.{label, named};
+ghost use Rattle.std.specs.Prelude.{◌≡◌, true, ◌&&◌, is_some, IfSome};
+ghost use Rattle.draft.specs.Labels.{named, there};
 ghost use Rattle.draft.specs.Shapes.{counts};
-ghost use Rattle.stores.specs.Rules.{clash, choice_row, makes, allowed};
+ghost use Rattle.stores.specs.Rules.{clash, course_row, choice_row, known, allowed};
 
+use draft::pairing::{Pairing, Side};
 use draft::shape::Shape;
 use layout::choice::Choice;
 use layout::rows::{ChoiceRow, CourseRow};
 
-// Whether two choices, whose courses have these teachers, clash.
-fn clash(x: &Choice, teacher: u8, y: &Choice, other: u8) -> bool
-    ensures value { result ≡ clash teacher record { evening = x.now.evening; room = x.now.room } other record { evening = y.now.evening; room = y.now.room } }
-{
-    x.evening() == y.evening() && (x.room() == y.room() || teacher == other)
+// A choice with its course's teacher.
+#[derive(Clone, Copy)]
+struct Class {
+    teacher: u8,
+    choice: Choice,
 }
 
-// The record of choice `b` of course `i`, where there is such a choice and its row makes one.
-fn record_of(shape: &Shape, choices: &[ChoiceRow], i: usize, b: usize) -> Option<Choice>
-    ensures test { is_some result ≡ (nat_lt b (slice_index (counts shape.now) i) && (nat_lt (label (counts shape.now) i b) (length choices.now) && makes (choice_row (counts shape.now) choices.now i b))) }
-    ensures evening { IfSome result (λ x. x.evening ≡ (choice_row (counts shape.now) choices.now i b).evening) }
-    ensures room { IfSome result (λ x. x.room ≡ (choice_row (counts shape.now) choices.now i b).room) }
-{
-    let row = choices.get(shape.label(i, b)?)?;
-    Choice::new(row).ok()
-}
-
-// Whether both choices of a pairing are known and do not clash.
-pub(crate) fn is_allowed(
-    shape: &Shape,
-    courses: &[CourseRow],
-    choices: &[ChoiceRow],
-    i: usize,
-    b: usize,
-    j: usize,
-    c: usize,
-) -> bool
-    requires named { named (counts shape.now) i b j c ≡ true }
-    ensures value { result ≡ allowed (counts shape.now) courses.now choices.now i b j c }
-{
-    if i >= courses.len() || j >= courses.len() {
-        return false;
+impl Class {
+    // Whether both are on one evening, and in one room or of one teacher.
+    fn clashes_with(self, other: Class) -> bool
+        ensures value { result ≡ clash self.teacher record { evening = self.choice.evening; room = self.choice.room } other.teacher record { evening = other.choice.evening; room = other.choice.room } }
+    {
+        self.choice.evening() == other.choice.evening()
+            && (self.choice.room() == other.choice.room() || self.teacher == other.teacher)
     }
-    let Some(x) = record_of(shape, choices, i, b) else {
-        return false;
-    };
-    let Some(y) = record_of(shape, choices, j, c) else {
-        return false;
-    };
-    !clash(&x, courses[i].teacher, &y, courses[j].teacher)
+}
+
+// A shape, with rows for its courses and choices.
+#[derive(Clone, Copy)]
+pub(crate) struct ShapeRows<'a> {
+    pub(crate) shape: &'a Shape,
+    pub(crate) courses: &'a [CourseRow],
+    pub(crate) choices: &'a [ChoiceRow],
+}
+
+impl ShapeRows<'_> {
+    // The class of a choice, where there is such a choice, neither of its rows is missing, and its
+    // choice row makes a record.
+    fn class_of(&self, side: Side) -> Option<Class>
+        ensures test { is_some result ≡ (there (counts self.now.shape.now) side && known (counts self.now.shape.now) self.now.courses.now self.now.choices.now side) }
+        ensures teacher { IfSome result (λ x. x.teacher ≡ (course_row self.now.courses.now side).teacher) }
+        ensures evening { IfSome result (λ x. x.choice.evening ≡ (choice_row (counts self.now.shape.now) self.now.choices.now side).evening) }
+        ensures room { IfSome result (λ x. x.choice.room ≡ (choice_row (counts self.now.shape.now) self.now.choices.now side).room) }
+    {
+        let teacher = self.courses.get(side.course)?.teacher;
+        let row = self.choices.get(self.shape.label(side)?)?;
+        let choice = Choice::try_from(*row).ok()?;
+        Some(Class { teacher, choice })
+    }
+
+    // Whether both choices of a pairing are known and do not clash.
+    pub(crate) fn is_allowed(&self, pairing: Pairing) -> bool
+        requires named { named (counts self.now.shape.now) pairing ≡ true }
+        ensures value { result ≡ allowed (counts self.now.shape.now) self.now.courses.now self.now.choices.now pairing }
+    {
+        match (self.class_of(pairing.one), self.class_of(pairing.other)) {
+            (Some(x), Some(y)) => !x.clashes_with(y),
+            _ => false,
+        }
+    }
 }

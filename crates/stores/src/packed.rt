@@ -1,12 +1,13 @@
 // A draft in the caller's bytes.
-ghost use Rattle.std.specs.Prelude.{◌≡◌, length, Some};
+ghost use Rattle.std.specs.Prelude.{◌≡◌, length};
 ghost use Rattle.draft.specs.Drafts.{strike};
 ghost use Rattle.draft.specs.Labels.{pair_of};
 ghost use Rattle.draft.specs.Shapes.{counts};
-ghost use Rattle.stores.specs.Packed.{packed_draft, packed_bytes, BitCleared, Cleared, PackedFrame, Room};
+ghost use Rattle.stores.specs.Packed.{packed_draft, packed_bytes, Cleared, PackedFrame, Room};
 ghost use Rattle.stores.specs.PackedLaws.{packed_laws, packed_preorder};
 
-use bits::{bit_at, set_bit};
+use crate::marks::{is_set, set_bit_of};
+use draft::pairing::Pairing;
 use draft::refusal::Refusal;
 use draft::shape::Shape;
 use draft::store::Store;
@@ -17,22 +18,6 @@ use draft::store::Store;
 pub struct Packed<'a, 'b> {
     shape: &'b Shape,
     bits: &'a mut [u8],
-}
-
-// Makes bit `p` 0, where there is such a bit.
-fn clear_bit(bits: &mut [u8], p: usize)
-    ensures bits { BitCleared bits.old bits.new p }
-{
-    set_bit(bits, p, false);
-}
-
-// Makes the pairing's bit 0, where there is such a pairing and such a bit.
-fn clear_pairing(shape: &Shape, bits: &mut [u8], i: usize, b: usize, j: usize, c: usize)
-    ensures bits { Cleared (pair_of (counts shape.now) i b j c) bits.old bits.new }
-{
-    if let Some(p) = shape.pair(i, b, j, c) {
-        clear_bit(bits, p);
-    }
 }
 
 impl<'a, 'b> Packed<'a, 'b> {
@@ -64,7 +49,7 @@ impl<'a, 'b> Packed<'a, 'b> {
     }
 }
 
-impl<'a, 'b> Store for Packed<'a, 'b> {
+impl Store for Packed<'_, '_> {
     ghost draft = { λ s. packed_draft (counts s.shape.now) s.bits.now };
 
     ghost laws = { λ s. packed_laws s.shape.now s.bits.now };
@@ -81,19 +66,18 @@ impl<'a, 'b> Store for Packed<'a, 'b> {
         self.shape.choices(i)
     }
 
-    fn stands(&self, i: usize, b: usize, j: usize, c: usize) -> bool {
-        match self.shape.pair(i, b, j, c) {
-            Some(p) => bit_at(self.bits, p) == 1,
-            None => false,
-        }
+    fn stands(&self, pairing: Pairing) -> bool {
+        self.shape
+            .pair(pairing)
+            .is_some_and(|n| is_set(self.bits, n))
     }
 
     // Takes the pairing out of the set: its bit is 0, and every other bit and byte is as it was.
-    fn strike(&mut self, i: usize, b: usize, j: usize, c: usize)
-        ensures draft { packed_draft (counts self.new.shape.now) self.new.bits.now ≡ strike (packed_draft (counts self.old.shape.now) self.old.bits.now) i b j c }
+    fn strike(&mut self, pairing: Pairing)
+        ensures draft { packed_draft (counts self.new.shape.now) self.new.bits.now ≡ strike (packed_draft (counts self.old.shape.now) self.old.bits.now) pairing }
         ensures frame { PackedFrame (counts self.old.shape.now) self.old.bits.ghost_name self.old.bits.now (counts self.new.shape.now) self.new.bits.ghost_name self.new.bits.now }
-        ensures bits { Cleared (pair_of (counts self.old.shape.now) i b j c) self.old.bits.now self.new.bits.now }
+        ensures bits { Cleared (pair_of (counts self.old.shape.now) pairing) self.old.bits.now self.new.bits.now }
     {
-        clear_pairing(self.shape, self.bits, i, b, j, c);
+        set_bit_of(self.bits, self.shape.pair(pairing), false);
     }
 }

@@ -4,6 +4,7 @@ use crate::support::{
 };
 use draft::refusal::Refusal;
 use reader::check::check;
+use std::process::Abort;
 
 // Two sound bars each, which rise by the course, the choice, the higher course or its choice. A bar's
 // first byte is its course, then its choice in the last 3 bits, and its second byte is the same of the
@@ -18,11 +19,17 @@ const RISING: [([u8; 2], [u8; 2]); 4] = [
 // The sheet with two other bars.
 fn with_bars(first: [u8; 2], second: [u8; 2]) -> [u8; 15] {
     let mut sheet = BARRED;
-    sheet[11] = first[0];
-    sheet[12] = first[1];
-    sheet[13] = second[0];
-    sheet[14] = second[1];
+    sheet[11..13].copy_from_slice(&first);
+    sheet[13..15].copy_from_slice(&second);
     sheet
+}
+
+// Each of the bars is refused for what it names, as the first bar and as the second.
+fn refuses_names(rt: &impl Abort, bars: &[[u8; 2]]) {
+    for bar in bars {
+        refuses(rt, &with_bars(*bar, [0x08, 0x11]), Refusal::BarName, 88);
+        refuses(rt, &with_bars([0x00, 0x08], *bar), Refusal::BarName, 104);
+    }
 }
 
 #[test]
@@ -46,38 +53,38 @@ fn a_sheet_with_two_bars_is_written_again_as_it_stood(rt: HostRuntime) {
 
 #[test]
 fn a_bar_with_a_course_that_is_not_there_is_refused(rt: HostRuntime) {
-    for bar in [[0x00, 0x18], [0x00, 0xF8], [0x10, 0x18], [0x18, 0x20]] {
-        refuses(&rt, &with_bars(bar, [0x08, 0x11]), Refusal::BarName, 88);
-        refuses(&rt, &with_bars([0x00, 0x08], bar), Refusal::BarName, 104);
-    }
+    refuses_names(
+        &rt,
+        &[[0x00, 0x18], [0x00, 0xF8], [0x10, 0x18], [0x18, 0x20]],
+    );
 }
 
 #[test]
 fn a_bar_with_a_choice_that_is_not_there_is_refused(rt: HostRuntime) {
-    for bar in [
-        [0x02, 0x08],
-        [0x00, 0x09],
-        [0x07, 0x10],
-        [0x09, 0x10],
-        [0x08, 0x12],
-    ] {
-        refuses(&rt, &with_bars(bar, [0x08, 0x11]), Refusal::BarName, 88);
-        refuses(&rt, &with_bars([0x00, 0x08], bar), Refusal::BarName, 104);
-    }
+    refuses_names(
+        &rt,
+        &[
+            [0x02, 0x08],
+            [0x00, 0x09],
+            [0x07, 0x10],
+            [0x09, 0x10],
+            [0x08, 0x12],
+        ],
+    );
 }
 
 #[test]
 fn a_bar_whose_courses_do_not_rise_is_refused(rt: HostRuntime) {
-    for bar in [
-        [0x00, 0x00],
-        [0x00, 0x01],
-        [0x08, 0x08],
-        [0x08, 0x00],
-        [0x10, 0x08],
-    ] {
-        refuses(&rt, &with_bars(bar, [0x08, 0x11]), Refusal::BarName, 88);
-        refuses(&rt, &with_bars([0x00, 0x08], bar), Refusal::BarName, 104);
-    }
+    refuses_names(
+        &rt,
+        &[
+            [0x00, 0x00],
+            [0x00, 0x01],
+            [0x08, 0x08],
+            [0x08, 0x00],
+            [0x10, 0x08],
+        ],
+    );
 }
 
 #[test]

@@ -1,18 +1,17 @@
 // The largest sheets: 24 courses of 8 choices, and up to 4,095 bars.
 ghost use Rattle.std.specs.Prelude.{◌≤◌, length};
 
-use crate::support::{NO_BAR, NO_BYTE, NO_CHOICE, NO_COURSE, bar, choice, course, fault, same};
+use crate::support::{
+    NO_BAR, NO_BYTE, NO_CHOICE, NO_COURSE, bar, choice, course, fault, same, write_rows,
+};
 use draft::refusal::Refusal;
-use layout::rows::{BarRow, ChoiceRow, Counts, CourseRow};
+use layout::rows::{BarRow, ChoiceRow, Counts, CourseRow, MOST_BARS};
 use sheet::recheck::recheck;
 use std::alloc::{AllocError, Global};
 use std::process::Abort;
 use std::test::Fail;
-use writer::write::write;
 
 const BARS: usize = 4416;
-
-const MOST_BARS: usize = 4095;
 
 const BITS_WITHOUT_BARS: usize = 9 + 24 * 9 + 192 * 8 + 12;
 
@@ -23,8 +22,8 @@ const BYTES_WITH_BARS: usize = (BITS_WITHOUT_BARS + MOST_BARS * 16 + 7) / 8;
 // 24 courses of 8 choices.
 fn courses() -> [CourseRow; 24] {
     let mut rows = [NO_COURSE; 24];
-    for i in 0..24 {
-        rows[i] = course((i * 11 % 64) as u8, 8);
+    for (i, row) in rows.iter_mut().enumerate() {
+        *row = course((i * 11 % 64) as u8, 8);
     }
     rows
 }
@@ -32,8 +31,8 @@ fn courses() -> [CourseRow; 24] {
 // Their choices.
 fn choices() -> [ChoiceRow; 192] {
     let mut rows = [NO_CHOICE; 192];
-    for k in 0..192 {
-        rows[k] = choice((k % 7) as u8, (k * 5 % 32) as u8);
+    for (k, row) in rows.iter_mut().enumerate() {
+        *row = choice((k % 7) as u8, (k * 5 % 32) as u8);
     }
     rows
 }
@@ -64,7 +63,7 @@ fn written(rt: &impl Abort, heap: Global, bars: &[BarRow], bytes: usize) -> Resu
     requires { bytes ≤ 10000 }
 {
     let mut sheet = vec![in heap; NO_BYTE; bytes + 1]?;
-    let answer = write(&courses(), &choices(), bars, &mut sheet);
+    let answer = write_rows(&courses(), &choices(), bars, &mut sheet);
     assert_eq!(rt; answer, Ok(bytes));
     assert_eq!(rt; sheet.pop(), Some(NO_BYTE));
     Ok(sheet)
@@ -124,7 +123,7 @@ fn more_than_4095_bars_are_refused(rt: HostRuntime) -> Result<(), Fail> {
     assert!(rt; bars.len() == BARS);
     let more = &bars[BARS - MOST_BARS - 1..BARS];
     let mut out = vec![in rt.alloc(); NO_BYTE; 9000]?;
-    let answer = write(&courses(), &choices(), more, &mut out);
+    let answer = write_rows(&courses(), &choices(), more, &mut out);
     assert_eq!(rt; answer, Err(fault(Refusal::Limit, 0)));
     assert_eq!(rt; out, vec![in rt.alloc(); NO_BYTE; 9000]?);
     Ok(())

@@ -1,15 +1,30 @@
 // Lists and bytes that are too short, and what lies past the rows of a sheet.
+ghost use Rattle.std.specs.Prelude.{◌≤◌};
+
 use crate::support::{
     BARRED, BARRED_COUNTS, BARS, CHOICES, COURSES, Lists, NO_BAR, NO_BYTE, NO_CHOICE, NO_COURSE,
     SMALL, SMALL_COUNTS, fault,
 };
 use draft::fault::Fault;
 use draft::refusal::Refusal;
+use std::process::Abort;
 
 const TOO_SHORT: Fault = Fault::Sheet {
     refusal: Refusal::Memory,
     bit: 0,
 };
+
+// Lists of these lengths are refused, and stay as they were.
+fn refuses_lists(rt: &impl Abort, courses: usize, choices: usize, bars: usize)
+    requires courses { courses ≤ 4 }
+    requires choices { choices ≤ 6 }
+    requires bars { bars ≤ 3 }
+{
+    let mut lists = Lists::new();
+    let answer = lists.read_front(&BARRED, courses, choices, bars);
+    assert_eq!(rt; answer, Err(TOO_SHORT));
+    assert_eq!(rt; lists, Lists::new());
+}
 
 #[test]
 fn lists_that_just_fit_are_enough(rt: HostRuntime) {
@@ -22,23 +37,17 @@ fn lists_that_just_fit_are_enough(rt: HostRuntime) {
 
 #[test]
 fn a_list_of_courses_too_short_by_one_is_refused(rt: HostRuntime) {
-    let mut lists = Lists::new();
-    assert_eq!(rt; lists.read_front(&BARRED, 2, 6, 3), Err(TOO_SHORT));
-    assert_eq!(rt; lists, Lists::new());
+    refuses_lists(&rt, 2, 6, 3);
 }
 
 #[test]
 fn a_list_of_choices_too_short_by_one_is_refused(rt: HostRuntime) {
-    let mut lists = Lists::new();
-    assert_eq!(rt; lists.read_front(&BARRED, 4, 4, 3), Err(TOO_SHORT));
-    assert_eq!(rt; lists, Lists::new());
+    refuses_lists(&rt, 4, 4, 3);
 }
 
 #[test]
 fn a_list_of_bars_too_short_by_one_is_refused(rt: HostRuntime) {
-    let mut lists = Lists::new();
-    assert_eq!(rt; lists.read_front(&BARRED, 4, 6, 1), Err(TOO_SHORT));
-    assert_eq!(rt; lists, Lists::new());
+    refuses_lists(&rt, 4, 6, 1);
 }
 
 #[test]

@@ -3,6 +3,7 @@ use draft::fault::Fault;
 use draft::refusal::Refusal;
 use layout::choice::Choice;
 use layout::rows::ChoiceRow;
+use std::process::Abort;
 
 const REFUSALS: [Refusal; 16] = [
     Refusal::SheetEnds,
@@ -25,48 +26,43 @@ const REFUSALS: [Refusal; 16] = [
 
 #[test]
 fn the_refusals_are_numbered_from_1_to_16(rt: HostRuntime) {
-    for k in 0..16 {
-        assert_eq!(rt; usize::from(REFUSALS[k].number()), k + 1);
+    for (k, refusal) in REFUSALS.iter().enumerate() {
+        assert_eq!(rt; usize::from(u8::from(*refusal)), k + 1);
     }
 }
 
 #[test]
 fn a_fault_of_a_sheet_names_its_refusal_and_its_bit(rt: HostRuntime) {
-    for k in 0..16 {
-        let fault = Fault::Sheet {
-            refusal: REFUSALS[k],
-            bit: k,
-        };
-        assert_eq!(rt; fault.refusal(), REFUSALS[k]);
-        assert_eq!(rt; fault.bit(), Some(k));
+    for (bit, refusal) in REFUSALS.into_iter().enumerate() {
+        let fault = Fault::Sheet { refusal, bit };
+        assert_eq!(rt; fault.refusal(), refusal);
+        assert_eq!(rt; fault.bit(), Some(bit));
     }
+}
+
+// The fault names that refusal and no bit.
+fn names_no_bit(rt: &impl Abort, fault: Fault, refusal: Refusal) {
+    assert_eq!(rt; fault.refusal(), refusal);
+    assert_eq!(rt; fault.bit(), None);
 }
 
 #[test]
 fn a_fault_of_a_line_names_its_refusal_and_no_bit(rt: HostRuntime) {
-    for k in 0..16 {
-        let fault = Fault::Line {
-            refusal: REFUSALS[k],
-        };
-        assert_eq!(rt; fault.refusal(), REFUSALS[k]);
-        assert_eq!(rt; fault.bit(), None);
+    for refusal in REFUSALS {
+        names_no_bit(&rt, Fault::Line { refusal }, refusal);
     }
 }
 
 #[test]
 fn a_fault_of_a_plan_names_its_refusal_and_no_bit(rt: HostRuntime) {
-    for k in 0..16 {
-        let fault = Fault::Plan {
-            refusal: REFUSALS[k],
-        };
-        assert_eq!(rt; fault.refusal(), REFUSALS[k]);
-        assert_eq!(rt; fault.bit(), None);
+    for refusal in REFUSALS {
+        names_no_bit(&rt, Fault::Plan { refusal }, refusal);
     }
 }
 
 // The evening and the room of the row's record, or the refusal.
 fn record(evening: u8, room: u8) -> Result<(u8, u8), Refusal> {
-    let choice = Choice::new(&ChoiceRow { evening, room })?;
+    let choice = Choice::try_from(ChoiceRow { evening, room })?;
     Ok((choice.evening(), choice.room()))
 }
 

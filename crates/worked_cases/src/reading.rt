@@ -53,8 +53,8 @@ fn an_empty_sheet_ends_inside_the_edition(rt: HostRuntime) {
 #[test]
 fn every_cut_names_the_field_that_it_falls_into(rt: HostRuntime) {
     let fields = [0, 4, 12, 21, 29, 37, 46, 51];
-    for kept in 0..8 {
-        refuses(&rt, &SMALL[0..kept], Refusal::SheetEnds, fields[kept]);
+    for (kept, field) in fields.into_iter().enumerate() {
+        refuses(&rt, &SMALL[0..kept], Refusal::SheetEnds, field);
     }
 }
 

@@ -3,12 +3,13 @@ ghost use Rattle.std.specs.Prelude.{◌≤◌};
 
 use draft::fault::Fault;
 use draft::refusal::Refusal;
-use layout::rows::{BarRow, ChoiceRow, Counts, CourseRow};
+use layout::rows::{BarRow, ChoiceRow, Counts, CourseRow, Rows};
 use reader::check::check;
 use reader::read::read;
 use sheet::checked::Checked;
 use sheet::recheck::recheck;
 use std::process::Abort;
+use writer::write::write;
 
 // A sheet with no bars: its courses begin at bits 9 and 34, its choices at 18, 26 and 43, the number
 // of bars at 51, and bit 63 is filling.
@@ -134,12 +135,26 @@ pub(crate) fn fault(refusal: Refusal, bit: usize) -> Fault {
 
 // What a sheet that was written again as it stood comes to.
 pub(crate) fn same(counts: Counts, bytes: usize) -> Checked {
-    let same = true;
     Checked {
         counts,
         bytes,
-        same,
+        same: true,
     }
+}
+
+// Writes the sheet of these rows.
+pub(crate) fn write_rows(
+    courses: &[CourseRow],
+    choices: &[ChoiceRow],
+    bars: &[BarRow],
+    out: &mut [u8],
+) -> Result<usize, Fault> {
+    let rows = Rows {
+        courses,
+        choices,
+        bars,
+    };
+    write(&rows, out)
 }
 
 // Lists with a place more than the rows of the sheet with bars, and bytes to write into.
@@ -164,7 +179,7 @@ impl Lists {
 
     // Reads the sheet.
     pub(crate) fn read(&mut self, sheet: &[u8]) -> Result<Counts, Fault> {
-        read(sheet, &mut self.courses, &mut self.choices, &mut self.bars)
+        self.read_front(sheet, 4, 6, 3)
     }
 
     // Reads the sheet into that many places of each list.
@@ -175,7 +190,9 @@ impl Lists {
         choices: usize,
         bars: usize,
     ) -> Result<Counts, Fault>
-        requires { (courses ≤ 4) × ((choices ≤ 6) × (bars ≤ 3)) }
+        requires courses { courses ≤ 4 }
+        requires choices { choices ≤ 6 }
+        requires bars { bars ≤ 3 }
     {
         read(
             sheet,

@@ -1,9 +1,12 @@
 // Writing rows: three courses with 2, 1 and 2 choices, five choices and two bars.
-use crate::support::{BARRED, BARS, CHOICES, COURSES, NO_BYTE, bar, choice, course, fault};
+ghost use Rattle.std.specs.Prelude.{◌≤◌};
+
+use crate::support::{
+    BARRED, BARS, CHOICES, COURSES, NO_BYTE, bar, choice, course, fault, write_rows,
+};
 use draft::refusal::Refusal;
 use layout::rows::{BarRow, ChoiceRow, CourseRow};
 use std::process::Abort;
-use writer::write::write;
 
 // The bits where the choices of the rows begin.
 const PLACES: [usize; 5] = [18, 26, 43, 60, 68];
@@ -19,7 +22,7 @@ fn refuses(
 ) {
     let mut out = [NO_BYTE; 40];
     let found = fault(refusal, bit);
-    assert_eq!(rt; write(courses, choices, bars, &mut out), Err(found));
+    assert_eq!(rt; write_rows(courses, choices, bars, &mut out), Err(found));
     assert_eq!(rt; out, [NO_BYTE; 40]);
 }
 
@@ -28,10 +31,21 @@ fn refuses_bars(rt: &impl Abort, bars: &[BarRow], refusal: Refusal, bit: usize) 
     refuses(rt, &COURSES, &CHOICES, bars, refusal, bit);
 }
 
+// The choice is refused wherever it stands, that many bits after its first.
+fn refuses_choice(rt: &impl Abort, other: ChoiceRow, refusal: Refusal, bits: usize)
+    requires field { bits ≤ 3 }
+{
+    for (k, place) in PLACES.into_iter().enumerate() {
+        let mut choices = CHOICES;
+        choices[k] = other;
+        refuses(rt, &COURSES, &choices, &BARS, refusal, place + bits);
+    }
+}
+
 #[test]
 fn the_rows_become_the_sheet_and_later_bytes_stay(rt: HostRuntime) {
     let mut out = [NO_BYTE; 20];
-    assert_eq!(rt; write(&COURSES, &CHOICES, &BARS, &mut out), Ok(15));
+    assert_eq!(rt; write_rows(&COURSES, &CHOICES, &BARS, &mut out), Ok(15));
     assert_eq!(rt; &out[0..15], &BARRED[0..15]);
     assert_eq!(rt; &out[15..20], &[NO_BYTE; 5][0..5]);
 }
@@ -40,10 +54,10 @@ fn the_rows_become_the_sheet_and_later_bytes_stay(rt: HostRuntime) {
 fn bytes_too_few_by_one_are_refused(rt: HostRuntime) {
     let mut out = [NO_BYTE; 14];
     let found = fault(Refusal::Memory, 0);
-    assert_eq!(rt; write(&COURSES, &CHOICES, &BARS, &mut out), Err(found));
+    assert_eq!(rt; write_rows(&COURSES, &CHOICES, &BARS, &mut out), Err(found));
     assert_eq!(rt; out, [NO_BYTE; 14]);
     let mut enough = [NO_BYTE; 15];
-    assert_eq!(rt; write(&COURSES, &CHOICES, &BARS, &mut enough), Ok(15));
+    assert_eq!(rt; write_rows(&COURSES, &CHOICES, &BARS, &mut enough), Ok(15));
     assert_eq!(rt; enough, BARRED);
 }
 
@@ -51,7 +65,10 @@ fn bytes_too_few_by_one_are_refused(rt: HostRuntime) {
 fn another_fault_comes_before_too_few_bytes(rt: HostRuntime) {
     let found = fault(Refusal::BarOrder, 104);
     let falling = [BARS[1], BARS[0]];
-    assert_eq!(rt; write(&COURSES, &CHOICES, &falling, &mut []), Err(found));
+    assert_eq!(rt;
+        write_rows(&COURSES, &CHOICES, &falling, &mut []),
+        Err(found)
+    );
 }
 
 #[test]
@@ -96,36 +113,21 @@ fn a_course_with_9_choices_is_refused(rt: HostRuntime) {
 #[test]
 fn a_teacher_of_64_is_refused(rt: HostRuntime) {
     let places = [12, 37, 54];
-    for k in 0..3 {
+    for (k, place) in places.into_iter().enumerate() {
         let mut courses = COURSES;
-        courses[k] = course(64, COURSES[k].choices);
-        refuses(&rt, &courses, &CHOICES, &BARS, Refusal::Limit, places[k]);
+        courses[k].teacher = 64;
+        refuses(&rt, &courses, &CHOICES, &BARS, Refusal::Limit, place);
     }
 }
 
 #[test]
 fn an_evening_of_7_is_refused(rt: HostRuntime) {
-    for k in 0..5 {
-        let mut choices = CHOICES;
-        choices[k] = choice(7, 32);
-        refuses(&rt, &COURSES, &choices, &BARS, Refusal::Evening, PLACES[k]);
-    }
+    refuses_choice(&rt, choice(7, 32), Refusal::Evening, 0);
 }
 
 #[test]
 fn a_room_of_32_is_refused(rt: HostRuntime) {
-    for k in 0..5 {
-        let mut choices = CHOICES;
-        choices[k] = choice(6, 32);
-        refuses(
-            &rt,
-            &COURSES,
-            &choices,
-            &BARS,
-            Refusal::Limit,
-            PLACES[k] + 3,
-        );
-    }
+    refuses_choice(&rt, choice(6, 32), Refusal::Limit, 3);
 }
 
 #[test]

@@ -1,5 +1,6 @@
 // What-ifs over packed drafts and drafts by rule, one over the other.
-use crate::support::{EQUAL, has_equal_numbers_less, has_three_of_two, shape, standing};
+use crate::support::{EQUAL, NOTHING, has_equal_numbers_less, has_three_of_two, shape, standing};
+use draft::pairing::Pairing;
 use draft::store::Store;
 use layout::rows::{ChoiceRow, CourseRow};
 use std::test::Fail;
@@ -8,27 +9,24 @@ use stores::piles::{stands_mirrored, tried};
 use stores::rule::Rule;
 use stores::what_if::WhatIf;
 
-// A choice that no course has.
-const NO_CHOICE: usize = 9;
-
 #[test]
 fn a_pile_over_packed_bytes_leaves_them_as_they_were(rt: HostRuntime) -> Result<(), Fail> {
     let shape = shape(&[2, 2, 2])?;
     let mut bits = EQUAL;
     let mut lower = WhatIf::lay(Packed::new(&shape, &mut bits));
-    lower.strike(1, 0, 0, 0);
+    lower.strike(Pairing::new(1, 0, 0, 0));
     let mut upper = WhatIf::lay(lower);
     has_three_of_two(&rt, &upper);
-    has_equal_numbers_less(&rt, &upper, 0, 0);
-    upper.strike(0, 1, 2, 1);
-    upper.strike(0, 2, 1, 0);
-    upper.strike(1, 0, 1, 1);
+    has_equal_numbers_less(&rt, &upper, Pairing::new(0, 0, 1, 0));
+    upper.strike(Pairing::new(0, 1, 2, 1));
+    upper.strike(Pairing::new(0, 2, 1, 0));
+    upper.strike(Pairing::new(1, 0, 1, 1));
     assert_eq!(rt; standing(&upper), 12);
-    assert!(rt; !stands_mirrored(&upper, 0, 1, 2, 1));
+    assert!(rt; !stands_mirrored(&upper, Pairing::new(0, 1, 2, 1)));
     let lower = upper.take_off();
-    has_equal_numbers_less(&rt, &lower, 0, 0);
+    has_equal_numbers_less(&rt, &lower, Pairing::new(0, 0, 1, 0));
     let store = lower.take_off();
-    has_equal_numbers_less(&rt, &store, NO_CHOICE, NO_CHOICE);
+    has_equal_numbers_less(&rt, &store, NOTHING);
     assert_eq!(rt; bits, EQUAL);
     Ok(())
 }
@@ -38,11 +36,11 @@ fn a_strike_below_is_seen_above(rt: HostRuntime) -> Result<(), Fail> {
     let shape = shape(&[2, 2, 2])?;
     let mut bits = EQUAL;
     let mut upper = WhatIf::lay(Packed::new(&shape, &mut bits));
-    upper.strike(0, 1, 1, 1);
+    upper.strike(Pairing::new(0, 1, 1, 1));
     let mut store = upper.take_off();
-    store.strike(0, 0, 1, 0);
+    store.strike(Pairing::new(0, 0, 1, 0));
     let upper = WhatIf::lay(store);
-    has_equal_numbers_less(&rt, &upper, 0, 0);
+    has_equal_numbers_less(&rt, &upper, Pairing::new(0, 0, 1, 0));
     assert_eq!(rt; bits, [0x0B, 0xB4]);
     Ok(())
 }
@@ -76,10 +74,10 @@ fn a_what_if_over_a_rule_is_taken_off_again(rt: HostRuntime) -> Result<(), Fail>
     ];
     let mut upper = WhatIf::lay(Rule::new(&shape, &courses, &choices));
     assert_eq!(rt; standing(&upper), 4);
-    upper.strike(1, 1, 0, 0);
-    assert!(rt; !upper.stands(0, 0, 1, 1));
+    upper.strike(Pairing::new(1, 1, 0, 0));
+    assert!(rt; !upper.stands(Pairing::new(0, 0, 1, 1)));
     assert_eq!(rt; standing(&upper), 2);
-    let (store, stands) = tried(upper.take_off(), 0, 0, 1, 0);
+    let (store, stands) = tried(upper.take_off(), Pairing::new(0, 0, 1, 0));
     assert!(rt; !stands);
     assert_eq!(rt; standing(&store), 4);
     Ok(())
@@ -90,11 +88,11 @@ fn marks_reach_the_last_pairing_of_the_largest_shape(rt: HostRuntime) -> Result<
     let shape = shape(&[8; 24])?;
     let mut bits = [0xFF; 2292];
     let mut upper = WhatIf::lay(Packed::new(&shape, &mut bits));
-    upper.strike(23, 7, 22, 7);
-    assert!(rt; !upper.stands(22, 7, 23, 7));
-    assert!(rt; upper.stands(22, 6, 23, 7));
-    assert!(rt; upper.stands(22, 7, 23, 6));
-    assert!(rt; upper.stands(0, 0, 1, 0));
-    assert!(rt; upper.take_off().stands(22, 7, 23, 7));
+    upper.strike(Pairing::new(23, 7, 22, 7));
+    assert!(rt; !upper.stands(Pairing::new(22, 7, 23, 7)));
+    assert!(rt; upper.stands(Pairing::new(22, 6, 23, 7)));
+    assert!(rt; upper.stands(Pairing::new(22, 7, 23, 6)));
+    assert!(rt; upper.stands(Pairing::new(0, 0, 1, 0)));
+    assert!(rt; upper.take_off().stands(Pairing::new(22, 7, 23, 7)));
     Ok(())
 }

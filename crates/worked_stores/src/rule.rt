@@ -1,5 +1,6 @@
 // Drafts by rule: which choices clash, what the opening refuses, and what missing rows do.
 use crate::support::{shape, standing};
+use draft::pairing::Pairing;
 use draft::refusal::Refusal;
 use draft::store::Store;
 use layout::rows::{ChoiceRow, CourseRow};
@@ -56,12 +57,12 @@ fn choices_clash_by_evening_and_room_or_teacher(rt: HostRuntime) -> Result<(), F
     let store = Rule::new(&shape, &courses, &choices);
     assert_eq!(rt; store.courses(), 3);
     assert_eq!(rt; store.choices(2), 1);
-    assert!(rt; !store.stands(0, 0, 1, 0));
-    assert!(rt; !store.stands(1, 0, 0, 0));
-    assert!(rt; !store.stands(0, 0, 2, 0));
-    assert!(rt; store.stands(0, 0, 1, 1));
-    assert!(rt; store.stands(2, 0, 1, 0));
-    assert!(rt; store.stands(1, 1, 2, 0));
+    assert!(rt; !store.stands(Pairing::new(0, 0, 1, 0)));
+    assert!(rt; !store.stands(Pairing::new(1, 0, 0, 0)));
+    assert!(rt; !store.stands(Pairing::new(0, 0, 2, 0)));
+    assert!(rt; store.stands(Pairing::new(0, 0, 1, 1)));
+    assert!(rt; store.stands(Pairing::new(2, 0, 1, 0)));
+    assert!(rt; store.stands(Pairing::new(1, 1, 2, 0)));
     assert_eq!(rt; standing(&store), 12);
     Ok(())
 }
@@ -74,8 +75,8 @@ fn a_sheet_drafted_by_rule_allows_one_pairing(rt: HostRuntime) -> Result<(), Fai
     let shape = shape_of(&courses)?;
     assert_eq!(rt; Rule::check(&shape, &courses, &choices), Ok(()));
     let store = Rule::new(&shape, &courses, &choices);
-    assert!(rt; store.stands(0, 1, 1, 0));
-    assert!(rt; store.stands(1, 0, 0, 1));
+    assert!(rt; store.stands(Pairing::new(0, 1, 1, 0)));
+    assert!(rt; store.stands(Pairing::new(1, 0, 0, 1)));
     assert_eq!(rt; standing(&store), 2);
     Ok(())
 }
@@ -86,13 +87,13 @@ fn a_strike_takes_one_pairing_and_stays(rt: HostRuntime) -> Result<(), Fail> {
     let courses = courses();
     let choices = choices();
     let mut store = Rule::new(&shape, &courses, &choices);
-    store.strike(2, 0, 0, 1);
-    assert!(rt; !store.stands(0, 1, 2, 0));
+    store.strike(Pairing::new(2, 0, 0, 1));
+    assert!(rt; !store.stands(Pairing::new(0, 1, 2, 0)));
     assert_eq!(rt; standing(&store), 10);
-    store.strike(0, 0, 1, 0);
-    store.strike(0, 2, 1, 0);
-    store.strike(1, 0, 1, 1);
-    store.strike(3, 0, usize::MAX, 0);
+    store.strike(Pairing::new(0, 0, 1, 0));
+    store.strike(Pairing::new(0, 2, 1, 0));
+    store.strike(Pairing::new(1, 0, 1, 1));
+    store.strike(Pairing::new(3, 0, usize::MAX, 0));
     assert_eq!(rt; standing(&store), 10);
     Ok(())
 }

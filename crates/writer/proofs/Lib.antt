@@ -3,8 +3,8 @@ mod CheckLaws
 mod CourseLaws
 mod LabelLaws
 mod LengthLaws
-mod PutCourses
 mod PutLaws
 mod PutSheet
 pub mod RowLaws
 mod WriteLaws
+mod WriterLaws

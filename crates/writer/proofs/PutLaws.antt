@@ -1,19 +1,16 @@
 -- Fields put one after another.
-use Rattle.std.proofs.Common.{◌≡◌, ℕ, ◌+◌, ◌-◌, ◌*◌, ◌/◌, ◌^◌, ◌<◌, ◌≤◌, List, [], ◌∷◌, ◌++◌, length, get_or, take, Some, None, sym, ap, ◌∙◌, subst, arith}
-use Rattle.std.specs.List.{flat_map}
-use Rattle.std.proofs.lemmas.List.{take_more, flat_map_more, length-take-le}
-use Rattle.std.proofs.lemmas.Bool.{cond-true, le-leb}
-use Rattle.draft.specs.declared.refusal.Refusal.{Refusal}
-use Rattle.layout.specs.declared.rows.ChoiceRow.{ChoiceRow}
-use Rattle.bits.specs.Bits.{bit, val}
+use Rattle.std.proofs.Common.{◌≡◌, ℕ, ◌+◌, ◌-◌, ◌/◌, ◌^◌, ◌<◌, List, ◌++◌, sym, ap, ◌∙◌, subst, ⊎_elim, arith}
+use Rattle.std.specs.Prelude.{if◌then◌else◌, ◌==◌}
+use Rattle.std.proofs.lemmas.Bool.{cases_eq, cond-true, cond-false, eq-eqb, ne_eqb}
+use Rattle.bits.specs.Bits.{val}
 use Rattle.layout.specs.Held.{Holds}
-use Rattle.layout.specs.Layout.{Field, size, LawfulChoice}
-use Rattle.layout.specs.Records.{refusal_of}
+use Rattle.layout.specs.Layout.{Field, size}
 use Rattle.writer.specs.Putting.{Puts}
 use Rattle.layout.proofs.HoldsLaws.{size-append, holds_append, holds_same}
 
-pub puts_one : (s t : List ℕ) (p w v : ℕ) → val t p w ≡ v → ((j : ℕ) → j < p → bit t j ≡ bit s j) → ((j : ℕ) → p + w ≤ j → bit t j ≡ bit s j) → ((k : ℕ) → p + w ≤ 8 * k → get_or t k 0 ≡ get_or s k 0) → Puts s t p ((w, v) ∷ [])
-puts_one s t p w v e b a r = record { holds = (e, tt); before = b; rest = λ k h. r k (omega arith); after = λ j h. a j (omega arith) }
+-- a number below 2 is 1 where it is tested to be 1, and else 0
+pub two_if : (x : ℕ) → x < 2 → (if x == 1 then 1 else 0) ≡ x
+two_if x h = ⊎_elim (λ e. cond-true (x == 1) 1 0 (eq-eqb x 1 e) ∙ sym e) (λ ne. cond-false (x == 1) 1 0 (ne_eqb x 1 ne) ∙ omega arith) (cases_eq x 1)
 
 -- all the bits of a number are the number
 pub front_all : (t : List ℕ) (p i w v : ℕ) → i ≡ w → val t p i ≡ v / 2 ^ (w - i) → val t p w ≡ v
@@ -31,21 +28,3 @@ puts_more s t u p q fs gs e a b =
       rest = λ k h. let w = size-append fs gs in b.rest k (omega arith) ∙ a.rest k (omega arith);
       after = λ j h. let w = size-append fs gs in b.after j (omega arith) ∙ a.after j (omega arith);
     }
-
--- one row more, where each row takes w bits
-pub puts_row : {X : Type 0} (f : X → List Field) (w : ℕ) → ((xs : List X) → size (flat_map f xs) ≡ w * length xs) → (s t u : List ℕ) (p k : ℕ) (rows : List X) (d : X) → k < length rows → Puts s t p (flat_map f (take k rows)) → Puts t u (p + w * k) (f (get_or rows k d)) → Puts s u p (flat_map f (take (k + 1) rows))
-puts_row f w wide s t u p k rows d h a b =
-    let e : w * k ≡ size (flat_map f (take k rows)) = sym (wide (take k rows) ∙ ap (λ (n : ℕ). w * n) (length-take-le k rows (omega arith))) in
-    subst (λ (fs : List Field). Puts s u p fs) (flat_map_more f [] (take k rows) (get_or rows k d) ∙ ap (flat_map f) (sym (take_more rows k d h)))
-    (puts_more s t u p (p + w * k) (flat_map f (take k rows)) (f (get_or rows k d)) (ap (λ (n : ℕ). p + n) e) a b)
-
--- a choice's two fields, by equal numbers
-pub puts_pair : (s t : List ℕ) (p : ℕ) {e e' r r' : ℕ} → e ≡ e' → r ≡ r' → Puts s t p ((3, e) ∷ (5, r) ∷ []) → Puts s t p ((3, e') ∷ (5, r') ∷ [])
-puts_pair s t p e r a = subst (λ (fs : List Field). Puts s t p fs) (λ i. (3, e i) ∷ (5, r i) ∷ []) a
-
--- a lawful row makes a record
-pub never_refused : (h : ChoiceRow) (e : Refusal) → LawfulChoice h → refusal_of h ≡ Some e → ⊥
-never_refused h e l told =
-    let made : refusal_of h ≡ None = cond-true _ _ _ (le-leb h.evening 6 l.0) ∙ cond-true _ _ _ (le-leb h.room 31 l.1) in
-    let z : ◌≡◌ {A = ℕ} 0 1 = cc in
-    omega arith

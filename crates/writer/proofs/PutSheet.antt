@@ -1,5 +1,5 @@
--- Lawful rows fit their fields, and all fields put one after another are the layout.
-use Rattle.std.proofs.Common.{◌≡◌, ℕ, ◌+◌, ◌*◌, ◌≤◌, List, [], ◌∷◌, ◌++◌, length, refl, arith}
+-- Lawful rows fit their fields, and what is left of the layout after each step.
+use Rattle.std.proofs.Common.{◌≡◌, ◌+◌, ◌*◌, ◌≤◌, List, [], ◌∷◌, ◌++◌, length, refl, arith}
 use Rattle.std.specs.List.{flat_map, AllByRecursion}
 use Rattle.std.proofs.ByRecursion.{All-weaker}
 use Rattle.layout.specs.declared.rows.BarRow.{BarRow}
@@ -7,9 +7,11 @@ use Rattle.layout.specs.declared.rows.ChoiceRow.{ChoiceRow}
 use Rattle.layout.specs.declared.rows.CourseRow.{CourseRow}
 use Rattle.layout.specs.Layout.{size, courses_fields, bar_fields, bars_fields, layout, counts_of, LawfulBar, Lawful}
 use Rattle.layout.proofs.SheetLaws.{fits_bar}
-use Rattle.layout.proofs.SizeLaws.{total_le, size_fields, size_layout}
-use Rattle.writer.specs.Putting.{FitBar, Puts}
-use Rattle.writer.proofs.PutLaws.{puts_more}
+use Rattle.layout.proofs.SizeLaws.{total_le, size_layout}
+use Rattle.writer.specs.declared.fields.BitWriter.{BitWriter}
+use Rattle.writer.specs.Putting.{FitBar}
+use Rattle.writer.specs.Writers.{Adds, HasRoom}
+use Rattle.writer.proofs.WriterLaws.{Leaves, leaves_all, leaves_others}
 
 module _ (cs : List CourseRow) (hs : List ChoiceRow) (bs : List BarRow) (law : Lawful cs hs bs) where
   pub few_choices : length hs ≤ 192
@@ -21,12 +23,15 @@ module _ (cs : List CourseRow) (hs : List ChoiceRow) (bs : List BarRow) (law : L
   pub fit_bars : AllByRecursion FitBar bs
   fit_bars = All-weaker (LawfulBar (counts_of cs)) FitBar (λ b l. fits_bar cs b law.many law.courses l) bs law.names
 
-  -- edition, number of courses, courses, number of bars, bars
-  pub puts_sheet : (s t u v w x : List ℕ) → Puts s t 0 ((4, 1) ∷ []) → Puts t u 4 ((5, length cs) ∷ []) → Puts u v 9 (courses_fields cs hs) → Puts v w (9 + 9 * length cs + 8 * length hs) ((12, length bs) ∷ []) → Puts w x (9 + 9 * length cs + 8 * length hs + 12) (flat_map bar_fields bs) → Puts s x 0 (layout cs hs bs)
-  puts_sheet s t u v w x edition count courses more bars =
-      let at = 9 + 9 * length cs + 8 * length hs in
-      let wide = size_fields cs hs law.whole in
-      let heads = puts_more s t u 0 4 ((4, 1) ∷ []) ((5, length cs) ∷ []) refl edition count in
-      let tails = puts_more v w x at (at + 12) ((12, length bs) ∷ []) (flat_map bar_fields bs) refl more bars in
-      puts_more s u x 0 9 ((4, 1) ∷ (5, length cs) ∷ []) (courses_fields cs hs ++ bars_fields bs) refl heads
-      (puts_more u v x 9 at (courses_fields cs hs) (bars_fields bs) (omega arith) courses tails)
+-- what is left to put, first after the edition and the number of courses
+module _ (cs : List CourseRow) (hs : List ChoiceRow) (bs : List BarRow) {s t u : BitWriter} (room : HasRoom s (layout cs hs bs)) (edition : Adds s t ((4, 1) ∷ [])) (count : Adds t u ((5, length cs) ∷ [])) where
+  pub left_courses : Leaves s u (layout cs hs bs) (courses_fields cs hs ++ bars_fields bs)
+  left_courses =
+      leaves_others ((5, length cs) ∷ []) (courses_fields cs hs ++ bars_fields bs) refl
+      (leaves_others ((4, 1) ∷ []) ((5, length cs) ∷ (courses_fields cs hs ++ bars_fields bs)) refl (leaves_all room) edition) count
+
+  pub left_bars : {v : BitWriter} → Adds u v (courses_fields cs hs) → Leaves s v (layout cs hs bs) (bars_fields bs)
+  left_bars courses = leaves_others (courses_fields cs hs) (bars_fields bs) refl left_courses courses
+
+  pub left_rows : {v w : BitWriter} → Adds u v (courses_fields cs hs) → Adds v w ((12, length bs) ∷ []) → Leaves s w (layout cs hs bs) (flat_map bar_fields bs)
+  left_rows courses bars = leaves_others ((12, length bs) ∷ []) (flat_map bar_fields bs) refl (left_bars courses) bars

@@ -1,3 +1,4 @@
 pub mod Putting
 pub mod RowFaults
 pub mod Writing
+pub mod Writers

@@ -1,12 +1,13 @@
 // The fields of rows put into bytes.
-ghost use Rattle.std.specs.Prelude.{◌≡◌, ◌+◌, ◌*◌, ◌^◌, ◌<◌, ◌≤◌, [], ◌∷◌, length};
+ghost use Rattle.std.specs.Prelude.{◌≡◌, ◌≤◌, [], ◌∷◌, List, length};
 ghost use Rattle.std.specs.List.{flat_map, AllByRecursion};
-ghost use Rattle.layout.specs.Layout.{size, choice_fields, course_fields, courses_fields, bar_fields, layout, total, LawfulCourse, LawfulChoice, Lawful};
-ghost use Rattle.writer.specs.Putting.{FitBar, Puts};
+ghost use Rattle.layout.specs.Layout.{Field, choice_fields, course_fields, courses_fields, bar_fields, layout, total, LawfulCourse, LawfulChoice, Lawful};
+ghost use Rattle.writer.specs.Putting.{FitBar};
+ghost use Rattle.writer.specs.Writers.{Adds, HasRoom};
 
-use crate::fields::put;
+use crate::fields::BitWriter;
 use layout::choice::Choice;
-use layout::rows::{BarRow, ChoiceRow, CourseRow};
+use layout::rows::{BarRow, ChoiceRow, CourseRow, Rows};
 
 const EDITION: u16 = 1;
 
@@ -29,105 +30,106 @@ const COURSE_WIDTH: u8 = 5;
 
 const CHOICE_WIDTH: u8 = 3;
 
-// Puts the choice at bit `at`.
-fn put_choice(out: &mut [u8], at: usize, choice: &Choice)
-    requires early { at < 2 ^ 31 }
-    requires inside { at + 8 ≤ 8 * length out.old }
-    ensures { Puts out.old out.new at ((3, choice.now.evening) ∷ (5, choice.now.room) ∷ []) }
-{
-    put(out, at, EVENING_WIDTH, choice.evening() as u16);
-    put(out, at + 3, ROOM_WIDTH, choice.room() as u16);
+// A row that is written by itself.
+trait Put {
+    // The row's fields.
+    ghost fields: { Self → List Field };
+
+    // The row may be written.
+    ghost may_be_put: { Self → Type 0 };
+
+    // Puts the row's fields.
+    fn put(&self, writer: &mut BitWriter)
+        requires row { may_be_put self.now }
+        requires room { HasRoom writer.old (fields self.now) }
+        ensures fields { Adds writer.old writer.new (fields self.now) };
 }
 
-// Puts the choices from bit `at` on. Each row makes a record.
-fn put_choices(out: &mut [u8], at: usize, rows: &[ChoiceRow])
-    requires early { at < 2 ^ 30 }
-    requires many { length rows.now ≤ 8 }
-    requires lawful { AllByRecursion LawfulChoice rows.now }
-    requires inside { at + 8 * length rows.now ≤ 8 * length out.old }
-    ensures { Puts out.old out.new at (flat_map choice_fields rows.now) }
+// Puts a record's fields.
+fn put_choice(writer: &mut BitWriter, choice: Choice)
+    requires room { HasRoom writer.old ((3, choice.evening) ∷ (5, choice.room) ∷ []) }
+    ensures fields { Adds writer.old writer.new ((3, choice.evening) ∷ (5, choice.room) ∷ []) }
 {
-    for (k, row) in rows.iter().enumerate() {
-        let Ok(choice) = Choice::new(row) else {
-            return;
-        };
-        put_choice(out, at + 8 * k, &choice);
+    writer.put(EVENING_WIDTH, u16::from(choice.evening()));
+    writer.put(ROOM_WIDTH, u16::from(choice.room()));
+}
+
+// A choice row is written as the record that it makes.
+impl Put for ChoiceRow {
+    ghost fields = { choice_fields };
+
+    ghost may_be_put = { LawfulChoice };
+
+    fn put(&self, writer: &mut BitWriter) {
+        match Choice::try_from(*self) {
+            Ok(choice) => put_choice(writer, choice),
+            Err(_) => unreachable!(),
+        }
     }
 }
 
-// Puts the course and its choices from bit `at` on.
-fn put_course(out: &mut [u8], at: usize, row: &CourseRow, choices: &[ChoiceRow])
-    requires early { at < 2 ^ 29 }
+impl Put for BarRow {
+    ghost fields = { bar_fields };
+
+    ghost may_be_put = { FitBar };
+
+    fn put(&self, writer: &mut BitWriter) {
+        writer.put(COURSE_WIDTH, u16::from(self.course));
+        writer.put(CHOICE_WIDTH, u16::from(self.choice));
+        writer.put(COURSE_WIDTH, u16::from(self.higher));
+        writer.put(CHOICE_WIDTH, u16::from(self.partner));
+    }
+}
+
+// Puts the rows, one after another.
+fn put_rows<R: Put>(writer: &mut BitWriter, rows: &[R])
+    requires rows { AllByRecursion R.may_be_put rows.now }
+    requires room { HasRoom writer.old (flat_map R.fields rows.now) }
+    ensures fields { Adds writer.old writer.new (flat_map R.fields rows.now) }
+{
+    for row in rows {
+        row.put(writer);
+    }
+}
+
+// Puts the course, and then its choices.
+fn put_course(writer: &mut BitWriter, row: &CourseRow, choices: &[ChoiceRow])
     requires own { length choices.now ≡ row.now.choices }
     requires course { LawfulCourse row.now }
     requires lawful { AllByRecursion LawfulChoice choices.now }
-    requires inside { at + 9 + 8 * length choices.now ≤ 8 * length out.old }
-    ensures { Puts out.old out.new at (course_fields row.now choices.now) }
+    requires room { HasRoom writer.old (course_fields row.now choices.now) }
+    ensures fields { Adds writer.old writer.new (course_fields row.now choices.now) }
 {
-    put(out, at, COUNT_WIDTH, row.choices as u16 - 1);
-    put(out, at + 3, TEACHER_WIDTH, row.teacher as u16);
-    put_choices(out, at + 9, choices);
+    writer.put(COUNT_WIDTH, u16::from(row.choices) - 1);
+    writer.put(TEACHER_WIDTH, u16::from(row.teacher));
+    put_rows(writer, choices);
 }
 
-// Puts each course with its choices from bit 9 on.
-fn put_courses(out: &mut [u8], courses: &[CourseRow], choices: &[ChoiceRow])
-    requires many { length courses.now ≤ 24 }
+// Puts each course with its choices.
+fn put_courses(writer: &mut BitWriter, courses: &[CourseRow], choices: &[ChoiceRow])
     requires whole { length choices.now ≡ total courses.now }
     requires courses { AllByRecursion LawfulCourse courses.now }
     requires choices { AllByRecursion LawfulChoice choices.now }
-    requires inside { 9 + 9 * length courses.now + 8 * length choices.now ≤ 8 * length out.old }
-    ensures { Puts out.old out.new 9 (courses_fields courses.now choices.now) }
+    requires room { HasRoom writer.old (courses_fields courses.now choices.now) }
+    ensures fields { Adds writer.old writer.new (courses_fields courses.now choices.now) }
 {
-    let mut from = 0;
-    for (c, row) in courses.iter().enumerate() {
-        let to = from + row.choices as usize;
-        put_course(out, 9 + 9 * c + 8 * from, row, &choices[from..to]);
-        from = to;
-    }
-}
-
-// Puts the bar at bit `at`.
-fn put_bar(out: &mut [u8], at: usize, bar: &BarRow)
-    requires early { at < 2 ^ 31 }
-    requires fit { FitBar bar.now }
-    requires inside { at + 16 ≤ 8 * length out.old }
-    ensures { Puts out.old out.new at (bar_fields bar.now) }
-{
-    put(out, at, COURSE_WIDTH, bar.course as u16);
-    put(out, at + 5, CHOICE_WIDTH, bar.choice as u16);
-    put(out, at + 8, COURSE_WIDTH, bar.higher as u16);
-    put(out, at + 13, CHOICE_WIDTH, bar.partner as u16);
-}
-
-// Puts the bars from bit `at` on.
-fn put_bars(out: &mut [u8], at: usize, bars: &[BarRow])
-    requires early { at < 2 ^ 30 }
-    requires many { length bars.now ≤ 4095 }
-    requires fit { AllByRecursion FitBar bars.now }
-    requires inside { at + 16 * length bars.now ≤ 8 * length out.old }
-    ensures { Puts out.old out.new at (flat_map bar_fields bars.now) }
-{
-    for (k, bar) in bars.iter().enumerate() {
-        put_bar(out, at + 16 * k, bar);
+    let mut rest = choices;
+    for row in courses {
+        let (own, later) = rest.split_at(usize::from(row.choices));
+        put_course(writer, row, own);
+        rest = later;
     }
 }
 
 // Puts the whole sheet of the rows.
-pub(crate) fn put_sheet(
-    out: &mut [u8],
-    courses: &[CourseRow],
-    choices: &[ChoiceRow],
-    bars: &[BarRow],
-)
-    requires lawful { Lawful courses.now choices.now bars.now }
-    requires inside { size (layout courses.now choices.now bars.now) ≤ 8 * length out.old }
-    ensures { Puts out.old out.new 0 (layout courses.now choices.now bars.now) }
+pub(crate) fn put_sheet(writer: &mut BitWriter, rows: &Rows)
+    requires lawful { Lawful rows.now.courses.now rows.now.choices.now rows.now.bars.now }
+    requires room { HasRoom writer.old (layout rows.now.courses.now rows.now.choices.now rows.now.bars.now) }
+    ensures fields { Adds writer.old writer.new (layout rows.now.courses.now rows.now.choices.now rows.now.bars.now) }
 {
-    put(out, 0, EDITION_WIDTH, EDITION);
-    put(out, 4, COURSES_WIDTH, courses.len() as u16);
-    put_courses(out, courses, choices);
-    // 9 bits come first, then 9 for each course and 8 for each choice.
-    let at = 9 + 9 * courses.len() + 8 * choices.len();
-    put(out, at, BARS_WIDTH, bars.len() as u16);
-    put_bars(out, at + 12, bars);
+    writer.put(EDITION_WIDTH, EDITION);
+    writer.put(COURSES_WIDTH, rows.courses.len() as u16);
+    put_courses(writer, rows.courses, rows.choices);
+    writer.put(BARS_WIDTH, rows.bars.len() as u16);
+    put_rows(writer, rows.bars);
 }

@@ -1,12 +1,7 @@
 use Rattle.std.proofs.Common.{◌-◌, ◌/◌, ◌%◌, ◌<◌, get_or, ◌∙◌, arith}
 use Rattle.std.proofs.lemmas.List.{get_or-set_other}
-use Rattle.bits.proofs.OneBit.{taken, cleared, coded, made_byte, bit_set, bit_kept, byte_is, byte_below}
+use Rattle.bits.proofs.OneBit.{coded, made_byte, bit_set, bit_kept, byte_is, byte_below}
 use Rattle.bits.proofs.set_bit.Goals as goal
-
-pub overflow_sub-kept : goal.overflow_sub-kept
-overflow_sub-kept c =
-    let x = get_or c.args.bytes.now (c.args.k / 8) 0 in
-    omega (arith, taken x (7 - c.args.k % 8), cleared x (7 - c.args.k % 8) 0 (omega arith) (omega arith) (omega arith))
 
 pub overflow_add-bytes : goal.overflow_add-bytes
 overflow_add-bytes c =

@@ -1,13 +1,13 @@
-use Rattle.std.proofs.Common.{◌≡◌, ◌*◌, ◌≤◌, length, take, None}
-use Rattle.reader.specs.Decoded.{label, place, course_rows}
+use Rattle.std.proofs.Common.{◌≡◌, ◌*◌, ◌≤◌, take, None}
+use Rattle.reader.specs.Decoded.{label, course_rows}
 use Rattle.reader.specs.Verdict.{courses_fault}
 use Rattle.reader.proofs.courses.check_courses.Given as goal
 
 abbrev pub invariant-loop-c : goal.invariant-loop-c
 invariant-loop-c l =
-    (courses_fault l.sheet l.c ≡ None)
-    × (l.at ≡ place l.sheet l.c)
-    × (l.labels ≡ label l.sheet l.c)
-    × (l.labels ≤ 8 * l.c)
-    × (take l.c l.rows ≡ course_rows l.sheet l.c)
-    × (length l.rows ≡ 24)
+    record {
+      clean : courses_fault l.sheet l.c ≡ None;
+      labels : l.labels ≡ label l.sheet l.c;
+      few : l.labels ≤ 8 * l.c;
+      rows : take l.c l.row-items ≡ course_rows l.sheet l.c;
+    }

@@ -1,53 +1,45 @@
-use Rattle.std.proofs.Common.{ℕ, List, sym, ap, ◌∙◌, subst, ap₂, arith}
-use Rattle.layout.specs.declared.rows.CourseRow.{CourseRow}
-use Rattle.reader.specs.Reading.{Filled}
-use Rattle.reader.specs.Decoded.{choice_rows, bar_rows, label, written}
-use Rattle.reader.proofs.ReadLaws.{courses_is, choices_is, bars_is, few_choices, few_bars, part_is, part_long, part_own, place_is, filled}
+use Rattle.std.proofs.Common.{◌≡◌, ◌+◌, length, take, sym, ap, ◌∙◌, arith}
+use Rattle.std.proofs.lemmas.List.{length-take-le}
+use Rattle.reader.specs.Decoded.{course_rows, bars_place, bar_count}
+use Rattle.reader.proofs.ReadLaws.{courses_is, choices_is, bars_is, few_choices, few_bars, courses_long, filled}
 use Rattle.reader.proofs.read.read.Goals as goal
 
-pub overflow_mul-t : goal.overflow_mul-t
-overflow_mul-t c = omega (arith, few_choices c.args.sheet.now _ c.in_ok-head.ensures)
-
-pub overflow_add-n-2 : goal.overflow_add-n-2
-overflow_add-n-2 c =
-    let is = c.in_ok-head.ensures in
-    omega (arith, few_choices c.args.sheet.now _ is, courses_is c.args.sheet.now _ is, is.many)
-
-pub fill_choices-requires : goal.fill_choices-requires
-fill_choices-requires c =
+pub fill_choices-requires-clause-rows : goal.fill_choices-requires-clause-rows
+fill_choices-requires-clause-rows c =
     let s = c.args.sheet.now in
-    let is = c.in_ok-head.ensures in
-    let long = part_long s _ is in
-    let same = ap (label s) long in
+    let is = c.courses-2.ensures.value ∙ c.in_ok-head.ensures.value.1.rows in
+    is ∙ ap (course_rows s) (sym (courses_long s _ is))
+
+pub fill_choices-requires-clause-room : goal.fill_choices-requires-clause-room
+fill_choices-requires-clause-room c =
+    let s = c.args.sheet.now in
+    let h = c.in_ok-head.ensures.value.1 in
+    let long = courses_long s _ (c.courses-2.ensures.value ∙ h.rows) in
     let room = c.in_ok-check_room.ensures.room.choices in
-    record {
-      few = omega (arith, long, is.many);
-      rows = part_own s _ is;
-      room = omega (arith, choices_is s _ is);
-    }
+    rw long (omega (arith, choices_is s _ h))
 
-pub fill_bars-requires : goal.fill_bars-requires
-fill_bars-requires c =
+pub place-at-requires-clause-choices : goal.place-at-requires-clause-choices
+place-at-requires-clause-choices c = few_choices c.args.sheet.now _ c.in_ok-head.ensures.value.1
+
+pub overflow_add-at : goal.overflow_add-at
+overflow_add-at c = omega (arith, few_choices c.args.sheet.now _ c.in_ok-head.ensures.value.1)
+
+pub fill-requires : goal.fill-requires
+fill-requires c =
     let s = c.args.sheet.now in
-    let is = c.in_ok-head.ensures in
-    let n = courses_is s _ is in
-    let t = few_choices s _ is in
-    let m = few_bars s _ is in
-    let room = c.in_ok-check_room.ensures.room.bars in
-    (omega (arith, is.many), (omega arith, omega arith))
+    let h = c.in_ok-head.ensures.value.1 in
+    let long = length-take-le c.in_ok-head.head.counts.bars c.args.bars.now c.in_ok-check_room.ensures.room.bars in
+    record { early = omega (arith, few_choices s _ h, few_bars s _ h, c.in_ok-head.head.few) }
 
 pub returns : goal.returns
 returns c =
     let s = c.args.sheet.now in
-    let is = c.in_ok-head.ensures in
-    let cs = c.args.courses.now in
-    let hs = c.args.choices.now in
-    let bs = c.args.bars.now in
+    let head = c.in_ok-head.ensures.value in
+    let room = c.in_ok-check_room.ensures in
+    let courses = c.courses.ensures.value ∙ head.1.rows in
+    let long = courses_long s _ (c.courses-2.ensures.value ∙ head.1.rows) in
+    let at : c.place-at.result + 12 ≡ bars_place s + 12 = omega (arith, courses_is s _ head.1, choices_is s _ head.1) in
+    let some : length (take c.in_ok-head.head.counts.bars c.args.bars.now) ≡ bar_count s = length-take-le _ c.args.bars.now room.room.bars ∙ bars_is s _ head.1 in
     record {
-      cases = subst (Filled s cs c.fill_courses.new.courses hs c.fill_choices.new.choices bs c.fill_bars.new.bars) (sym is.counts)
-          (filled s cs _ hs _ bs _ is.clean
-          c.in_ok-check_room.ensures.told
-          (c.fill_courses.ensures ∙ ap (λ (r : List CourseRow). written cs 0 r) (part_is s _ is))
-          (c.fill_choices.ensures ∙ ap (λ (n : ℕ). written hs 0 (choice_rows s n)) (part_long s _ is))
-          (c.fill_bars.ensures ∙ ap₂ (λ (p m : ℕ). written bs 0 (bar_rows s p m)) (place_is s _ is) (bars_is s _ is)));
+      cases = filled s _ head.1.counts head.0 c.args.courses.now c.copy_from_slice.new.self c.args.choices.now c.fill_choices.new.choices c.args.bars.now c.fill.new.rows _ _ _ room.value (c.copy_from_slice.ensures.after ∙ courses) long c.fill_choices.ensures.front c.fill_choices.ensures.rest at some c.fill.ensures.value;
     }

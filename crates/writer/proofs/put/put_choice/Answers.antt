@@ -1,9 +1,10 @@
-use Rattle.std.proofs.Common.{◌+◌, [], ◌∷◌, refl}
-use Rattle.writer.proofs.PutLaws.{puts_more, puts_pair}
+use Rattle.std.proofs.Common.{◌≡◌, [], ◌∷◌, ◌∙◌, subst}
+use Rattle.writer.specs.Writers.{Adds}
+use Rattle.writer.proofs.WriterLaws.{adds_more}
 use Rattle.writer.proofs.put.put_choice.Goals as goal
 
 pub returns : goal.returns
 returns c =
-    let at = c.args.at in
-    puts_pair _ _ at c.evening.ensures.value c.room.ensures.value
-    (puts_more _ c.put.new.out _ at (at + 3) ((3, c.evening.result) ∷ []) _ refl c.put.ensures c.put-2.ensures)
+    let evening : c.from.result ≡ c.args.choice.evening = c.from.ensures ∙ c.evening.ensures.value in
+    let room : c.from-2.result ≡ c.args.choice.room = c.from-2.ensures ∙ c.room.ensures.value in
+    record { fields = subst (λ fs. Adds c.args.writer.now c.put-2.new.self fs) (λ i. (3, evening i) ∷ (5, room i) ∷ []) (adds_more c.put.ensures.fields c.put-2.ensures.fields) }

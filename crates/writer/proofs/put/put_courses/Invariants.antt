@@ -1,11 +1,11 @@
-use Rattle.std.proofs.Common.{◌≡◌, ◌*◌, ◌≤◌, take}
-use Rattle.layout.specs.Layout.{courses_fields}
-use Rattle.writer.specs.RowFaults.{label}
-use Rattle.writer.specs.Putting.{Puts}
+use Rattle.std.proofs.Common.{◌≡◌, length, drop}
+use Rattle.std.specs.List.{AllByRecursion}
+use Rattle.layout.specs.Layout.{courses_fields, total, LawfulChoice}
+use Rattle.writer.proofs.WriterLaws.{Leaves}
 use Rattle.writer.proofs.put.put_courses.Given as goal
 
-abbrev pub invariant-loop-c : goal.invariant-loop-c
-invariant-loop-c l =
-    (l.from ≡ label l.courses l.c)
-    × (l.from ≤ 8 * l.c)
-    × Puts l.initial.out l.out 9 (courses_fields (take l.c l.courses) (take l.from l.choices))
+abbrev pub invariant-loop-row : goal.invariant-loop-row
+invariant-loop-row l =
+    (length l.rest ≡ total (drop l.row-index l.courses))
+    × AllByRecursion LawfulChoice l.rest
+    × Leaves l.initial.writer l.writer (courses_fields l.courses l.choices) (courses_fields (drop l.row-index l.courses) l.rest)

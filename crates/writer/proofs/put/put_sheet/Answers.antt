@@ -1,33 +1,28 @@
-use Rattle.std.proofs.Common.{arith}
-use Rattle.writer.proofs.PutSheet.{few_choices, sheet_size, fit_bars, puts_sheet}
+use Rattle.std.proofs.Common.{[], ◌∷◌, length, refl}
+use Rattle.std.specs.List.{flat_map}
+use Rattle.layout.specs.Layout.{courses_fields, bar_fields, bars_fields}
+use Rattle.writer.proofs.PutSheet.{fit_bars, left_courses, left_bars, left_rows}
+use Rattle.writer.proofs.WriterLaws.{leaves_room}
 use Rattle.writer.proofs.put.put_sheet.Goals as goal
 
-pub put_courses-requires : goal.put_courses-requires
-put_courses-requires c =
-    let law = c.requires.lawful in
-    record { many = law.many; whole = law.whole; courses = law.courses; choices = law.choices; inside = omega (arith, sheet_size _ _ _ law) }
+pub put_courses-requires-clause-room : goal.put_courses-requires-clause-room
+put_courses-requires-clause-room c =
+    let r = c.args.rows.now in
+    leaves_room (courses_fields r.courses.now r.choices.now) (bars_fields r.bars.now) refl (left_courses _ _ _ c.requires.room c.put.ensures.fields c.put-2.ensures.fields)
 
-pub overflow_mul-at-2 : goal.overflow_mul-at-2
-overflow_mul-at-2 c = omega (arith, few_choices _ _ _ c.requires.lawful)
+pub put-requires-3-clause-room : goal.put-requires-3-clause-room
+put-requires-3-clause-room c =
+    let bs = c.args.rows.now.bars.now in
+    leaves_room ((12, length bs) ∷ []) (flat_map bar_fields bs) refl
+    (left_bars _ _ _ c.requires.room c.put.ensures.fields c.put-2.ensures.fields c.put_courses.ensures.fields)
 
-pub overflow_add-at-2 : goal.overflow_add-at-2
-overflow_add-at-2 c = omega (arith, few_choices _ _ _ c.requires.lawful, c.requires.lawful.many)
+pub put_rows-requires-clause-rows : goal.put_rows-requires-clause-rows
+put_rows-requires-clause-rows c = fit_bars _ _ _ c.requires.lawful
 
-pub put-requires-3 : goal.put-requires-3
-put-requires-3 c =
-    let law = c.requires.lawful in
-    let few = few_choices _ _ _ law in
-    record { early = omega (arith, law.many); narrow = omega arith; inside = omega (arith, sheet_size _ _ _ law); fits = omega (arith, law.bars) }
-
-pub overflow_add-at-3 : goal.overflow_add-at-3
-overflow_add-at-3 c = omega (arith, few_choices _ _ _ c.requires.lawful, c.requires.lawful.many)
-
-pub put_bars-requires : goal.put_bars-requires
-put_bars-requires c =
-    let law = c.requires.lawful in
-    let few = few_choices _ _ _ law in
-    record { early = omega (arith, law.many); many = law.bars; fit = fit_bars _ _ _ law; inside = omega (arith, sheet_size _ _ _ law) }
+pub put_rows-requires-clause-room : goal.put_rows-requires-clause-room
+put_rows-requires-clause-room c =
+    (left_rows _ _ _ c.requires.room c.put.ensures.fields c.put-2.ensures.fields c.put_courses.ensures.fields c.put-3.ensures.fields).room
 
 pub returns : goal.returns
 returns c =
-    puts_sheet _ _ _ c.requires.lawful _ _ _ _ _ _ c.put.ensures c.put-2.ensures c.put_courses.ensures c.put-3.ensures c.put_bars.ensures
+    record { fields = (left_rows _ _ _ c.requires.room c.put.ensures.fields c.put-2.ensures.fields c.put_courses.ensures.fields c.put-3.ensures.fields).adds _ c.put_rows.ensures.fields }

@@ -10,7 +10,7 @@ use Rattle.writer.proofs.rows_check.check_bars.Goals as goal
 pub returns-in_err-check_bar : goal.returns-in_err-check_bar
 returns-in_err-check_bar c =
     let p = err_from_is_err_and c.from_residual.result c.from_residual.ensures.1 in
-    rw (p.1, p.2) (bars_stop (counts c.args.shape.now) c.args.bars.now c.args.at c.loop-k.k c.loop-k.before _ (omega arith) c.loop-k.invariant.1 c.loop-k.invariant.0 c.in_err-check_bar.ensures.value)
+    rw (p.1, p.2) (record { told = bars_stop (counts c.args.shape.now) c.args.bars.now c.args.at c.loop-k.k c.loop-k.before _ (omega arith) c.loop-k.invariant.1 c.loop-k.invariant.0 c.in_err-check_bar.ensures.value })
 
 pub loop-k-preserved : goal.loop-k-preserved
 loop-k-preserved c =
@@ -24,4 +24,4 @@ pub returns : goal.returns
 returns c =
     let bs = c.args.bars.now in
     let all : c.loop-k.k ≡ length bs = omega arith in
-    subst (λ (n : ℕ). bars_fault (counts c.args.shape.now) bs c.args.at n ≡ None) all c.loop-k.invariant.0
+    record { told = subst (λ (n : ℕ). bars_fault (counts c.args.shape.now) bs c.args.at n ≡ None) all c.loop-k.invariant.0 }

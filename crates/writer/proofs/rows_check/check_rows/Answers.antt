@@ -3,31 +3,25 @@ use Rattle.writer.proofs.CheckLaws.{few_checked, limits_hold, rows_tell}
 use Rattle.writer.proofs.LengthLaws.{lengths_hold}
 use Rattle.writer.proofs.rows_check.check_rows.Goals as goal
 
-pub check_courses-requires : goal.check_courses-requires
-check_courses-requires c =
-    let n = lengths_hold _ _ _ c.in_ok-check_lengths.ensures in
-    record { many = n.many; whole = n.whole }
-
 pub overflow_mul-at-2 : goal.overflow_mul-at-2
 overflow_mul-at-2 c =
-    omega (arith, few_checked c.args.courses.now c.args.choices.now c.args.bars.now c.in_ok-check_lengths.ensures c.in_ok-check_courses.ensures)
+    omega (arith, few_checked c.args.rows.now.courses.now c.args.rows.now.choices.now c.args.rows.now.bars.now c.in_ok-check_lengths.ensures.told c.in_ok-check_courses.ensures.told)
 
 pub overflow_add-at-2 : goal.overflow_add-at-2
 overflow_add-at-2 c =
-    let n = lengths_hold c.args.courses.now c.args.choices.now c.args.bars.now c.in_ok-check_lengths.ensures in
-    let few = few_checked c.args.courses.now c.args.choices.now c.args.bars.now c.in_ok-check_lengths.ensures c.in_ok-check_courses.ensures in
+    let n = lengths_hold c.args.rows.now.courses.now c.args.rows.now.choices.now c.args.rows.now.bars.now c.in_ok-check_lengths.ensures.told in
+    let few = few_checked c.args.rows.now.courses.now c.args.rows.now.choices.now c.args.rows.now.bars.now c.in_ok-check_lengths.ensures.told c.in_ok-check_courses.ensures.told in
     omega (arith, n.many)
 
 pub check_bars-requires : goal.check_bars-requires
 check_bars-requires c =
-    let n = lengths_hold c.args.courses.now c.args.choices.now c.args.bars.now c.in_ok-check_lengths.ensures in
-    let few = few_checked c.args.courses.now c.args.choices.now c.args.bars.now c.in_ok-check_lengths.ensures c.in_ok-check_courses.ensures in
+    let n = lengths_hold c.args.rows.now.courses.now c.args.rows.now.choices.now c.args.rows.now.bars.now c.in_ok-check_lengths.ensures.told in
+    let few = few_checked c.args.rows.now.courses.now c.args.rows.now.choices.now c.args.rows.now.bars.now c.in_ok-check_lengths.ensures.told c.in_ok-check_courses.ensures.told in
     record { early = omega (arith, n.many); many = n.bars }
 
-pub returns-in-Ok : goal.returns-in-Ok
-returns-in-Ok c =
-    rows_tell _ _ _ c.in_ok-check_lengths.ensures c.in_ok-check_courses.ensures _ c.check_bars.result c.in-Ok.ensures.value c.check_bars.ensures
+pub unreachable-requires : goal.unreachable-requires
+unreachable-requires c = c.in-Err.ensures.value.0 (limits_hold _ _ _ c.in_ok-check_lengths.ensures.told c.in_ok-check_courses.ensures.told)
 
-pub returns-in-Err : goal.returns-in-Err
-returns-in-Err c =
-    absurd (c.in-Err.ensures.value.0 (limits_hold _ _ _ c.in_ok-check_lengths.ensures c.in_ok-check_courses.ensures))
+pub returns : goal.returns
+returns c =
+    record { told = rows_tell _ _ _ c.in_ok-check_lengths.ensures.told c.in_ok-check_courses.ensures.told _ c.check_bars.result c.in-Ok.ensures.value c.check_bars.ensures.told }

@@ -3,16 +3,16 @@ use Rattle.writer.proofs.PutSheet.{few_choices, sheet_size}
 use Rattle.writer.proofs.write.sheet_bytes.Goals as goal
 
 pub overflow_mul-result-2 : goal.overflow_mul-result-2
-overflow_mul-result-2 c = omega (arith, few_choices _ _ _ c.requires)
+overflow_mul-result-2 c = omega (arith, few_choices _ _ _ c.requires.lawful)
 
 pub overflow_add-result-2 : goal.overflow_add-result-2
-overflow_add-result-2 c = omega (arith, few_choices _ _ _ c.requires, c.requires.many)
+overflow_add-result-2 c = omega (arith, few_choices _ _ _ c.requires.lawful, c.requires.lawful.many)
 
 pub overflow_add-result-3 : goal.overflow_add-result-3
-overflow_add-result-3 c = omega (arith, few_choices _ _ _ c.requires, c.requires.many, c.requires.bars)
+overflow_add-result-3 c = omega (arith, few_choices _ _ _ c.requires.lawful, c.requires.lawful.many, c.requires.lawful.bars)
 
 pub overflow_add-result-4 : goal.overflow_add-result-4
-overflow_add-result-4 c = omega (arith, few_choices _ _ _ c.requires, c.requires.many, c.requires.bars)
+overflow_add-result-4 c = omega (arith, few_choices _ _ _ c.requires.lawful, c.requires.lawful.many, c.requires.lawful.bars)
 
 pub returns : goal.returns
-returns c = ap (λ (n : ℕ). (n + 7) / 8) (sym (sheet_size _ _ _ c.requires))
+returns c = record { value = ap (λ (n : ℕ). (n + 7) / 8) (sym (sheet_size _ _ _ c.requires.lawful)) }

@@ -1,8 +1,0 @@
-use Rattle.std.proofs.Common.{◌≡◌, ℕ, ◌<◌, length, get_or, take, sum}
-use Rattle.draft.proofs.shapes.first_labels.Given as goal
-
-abbrev pub invariant-loop-i : goal.invariant-loop-i
-invariant-loop-i l =
-    (length l.firsts ≡ 24)
-    × (l.labels ≡ sum (take l.i l.a))
-    × ((k : ℕ) → k < l.i → get_or l.firsts k 0 ≡ sum (take k l.a))

@@ -1,0 +1,6 @@
+use Rattle.draft.specs.Labels.{widest}
+use Rattle.stores.proofs.Strikes.{none_marked}
+use Rattle.stores.proofs.what_if.WhatIf.lay.Goals as goal
+
+pub returns-clause-draft : goal.returns-clause-draft
+returns-clause-draft g c = none_marked (g.S.Store.draft c.args.below) widest 2292
