@@ -3,7 +3,7 @@
 
 use anyhow::anyhow;
 use draft::fault::Fault;
-use draft::shape::MAX_COURSES;
+use draft::shape::{MAX_CHOICES, MAX_COURSES};
 use layout::rows::{BarRow, ChoiceRow, CourseRow, MOST_BARS};
 use sheet::checked::Checked;
 use sheet::recheck::recheck;
@@ -12,7 +12,7 @@ use std::io::ErrorKind;
 use std::{fs, io};
 
 // The choices of the largest sheet.
-const MOST_CHOICES: usize = 192;
+const MOST_CHOICES: usize = MAX_COURSES * MAX_CHOICES as usize;
 
 // The file's bytes, none where there is no such file.
 fn sheet_bytes(rt: &HostRuntime) -> io::Result<Vec<u8>> {

@@ -17,11 +17,12 @@ pub const MIN_CHOICES: u8 = 1;
 pub const MAX_CHOICES: u8 = 8;
 
 // From 2 to 24 courses, each with 1 to 8 choices: the first label of each course, and after the last
-// course the number of labels.
+// course the number of labels. A fixed table with its length beside: nothing is allocated, and a shape
+// is copied.
 #[derive(Clone, Copy)]
 pub struct Shape {
     len: usize,
-    firsts: [u8; 25],
+    firsts: [u8; MAX_COURSES + 1],
     ghost few: { 2 ≤ len },
     ghost many: { len ≤ 24 },
     ghost from: { slice_index firsts 0 ≡ 0 },
@@ -47,11 +48,11 @@ fn within_limits(a: &[u8]) -> bool
 }
 
 // The first label of each course of the counts `a`, and after them the number of labels.
-fn firsts_of(a: &[u8]) -> [u8; 25]
+fn firsts_of(a: &[u8]) -> [u8; MAX_COURSES + 1]
     requires limits { Limits a.now }
     ensures value { (k : ℕ) → k ≤ length a.now → slice_index result k ≡ sum (take k a.now) }
 {
-    let mut firsts = [0; 25];
+    let mut firsts = [0; MAX_COURSES + 1];
     let mut labels = 0;
     for (i, count) in a.iter().enumerate() {
         labels += *count;

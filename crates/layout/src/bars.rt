@@ -18,7 +18,8 @@ fn is_sound(shape: &Shape, bar: BarRow) -> bool
         && usize::from(bar.partner) < shape.choices(usize::from(bar.higher))
 }
 
-// Whether the bar is above the bar before it.
+// Whether the bar is above the bar before it, by their numbers: field by field would be another order
+// where a field is too large.
 fn is_above(before: Option<BarRow>, bar: BarRow) -> bool
     ensures value { result ≡ above before bar }
 {

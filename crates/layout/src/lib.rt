@@ -6,3 +6,4 @@ pub mod choice;
 pub mod faults;
 pub mod rows;
 pub mod shapes;
+pub mod widths;

@@ -9,19 +9,20 @@ use crate::rows::CourseRow;
 use draft::refusal::Refusal;
 use draft::shape::{MAX_COURSES, Shape};
 
-// The choice counts of the rows in the front of a table.
-fn count_table(courses: &[CourseRow]) -> [u8; 24]
+// The choice counts of the rows in the front of a fixed table, since nothing is allocated.
+fn count_table(courses: &[CourseRow]) -> [u8; MAX_COURSES]
     requires few { length courses.now ≤ 24 }
     ensures value { take (length courses.now) result ≡ counts_of courses.now }
 {
-    let mut table = [0; 24];
+    let mut table = [0; MAX_COURSES];
     for (i, row) in courses.iter().enumerate() {
         table[i] = row.choices;
     }
     table
 }
 
-// The shape with the rows' choice counts, or the refusal of counts outside the limits.
+// The shape with the rows' choice counts, or the refusal of counts outside the limits. No `TryFrom`:
+// neither a shape nor a list of rows is a type of this crate.
 pub fn shape_of(courses: &[CourseRow]) -> Result<Shape, Refusal>
     ensures value { MatchResult result (λ s. counts s ≡ counts_of courses.now) (λ e. (Limits (counts_of courses.now) → ⊥) × (e ≡ Limit)) }
 {

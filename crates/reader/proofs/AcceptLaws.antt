@@ -1,5 +1,5 @@
 -- The sheet of some rows has no fault.
-use Rattle.std.proofs.Common.{◌≡◌, ℕ, zero, suc, ◌+◌, ◌-◌, ◌*◌, ◌/◌, ◌<◌, ◌≤◌, eqb, leb, List, [], ◌∷◌, length, get_or, take, drop, None, sym, refl, ap, ◌∙◌, subst, add-zero, zero-add, arith}
+use Rattle.std.proofs.Common.{◌≡◌, ℕ, zero, suc, ◌+◌, ◌-◌, ◌*◌, ◌/◌, ◌<◌, ◌≤◌, eqb, leb, List, [], ◌∷◌, length, get_or, take, drop, None, sym, ap, ◌∙◌, subst, add-zero, zero-add, arith}
 use Rattle.std.specs.List.{flat_map, AllByRecursion}
 use Rattle.std.proofs.ByRecursion.{All-take, All-drop, All-get_or}
 use Rattle.std.proofs.lemmas.List.{ext_get_or, length-take-le, length-drop}
@@ -69,7 +69,7 @@ module _ (s : List ℕ) where
       let lr = length-drop a hs in
       let rest = courses_fields cs (drop a hs) in
       let one = course_ok (place s k) c front lf (holds_front s (place s k) (course_fields c front) rest h) lc.0 (All-take LawfulChoice a hs lh) (omega arith) in
-      let next = label_next s k (place s k) refl in
+      let next = label_next s k in
       let q : place s k + size (course_fields c front) ≡ place s (k + 1) = omega (arith, size_choices front, one.1) in
       let back : Holds s (place s (k + 1)) rest = subst (λ (x : ℕ). Holds s x rest) q (holds_back s (place s k) (course_fields c front) rest h) in
       let ih = courses_ok (k + 1) cs (drop a hs) back lc.1 (All-drop LawfulChoice a hs lh) (omega arith) (omega (arith, one.1)) in

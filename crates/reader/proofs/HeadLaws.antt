@@ -1,15 +1,19 @@
 -- The parts of a sheet's verdict put together.
-use Rattle.std.proofs.Common.{◌≡◌, ℕ, ◌+◌, ◌*◌, ◌≤◌, List, length, take, None, sym, ap, ◌∙◌, subst, arith}
+use Rattle.std.proofs.Common.{◌≡◌, ℕ, ◌+◌, ◌*◌, ◌≤◌, List, length, take, Some, None, refl, sym, ap, ◌∙◌, subst, arith}
 use Rattle.draft.specs.Limits.{Limits}
+use Rattle.draft.specs.declared.fault.Fault.{Fault}
 use Rattle.layout.specs.declared.rows.CourseRow.{CourseRow}
 use Rattle.bits.specs.Bits.{val}
 use Rattle.layout.specs.Layout.{counts_of}
 use Rattle.bits.proofs.BitLaws.{val_lt}
 use Rattle.layout.proofs.CountLaws.{counts_length}
+use Rattle.reader.specs.declared.fields.BitReader.{BitReader}
 use Rattle.reader.specs.Decoded.{course_at, course_rows, course_count, place, label, bars_place, bar_count}
 use Rattle.reader.specs.Passes.{Started, Courses, HeadOf}
+use Rattle.reader.specs.Readers.{Moves}
 use Rattle.reader.specs.Verdict.{start_fault, courses_fault, tail_fault, verdict}
 use Rattle.reader.proofs.Places.{decoded_count}
+use Rattle.reader.proofs.ReaderLaws.{moves_more}
 use Rattle.reader.proofs.RowLaws.{length-rows_of}
 
 -- decoded counts are within the limits
@@ -24,34 +28,48 @@ rows_limits s n few many =
           (omega arith, omega arith),
     )
 
--- the sheet's verdict, and what it holds, by what the passes over its start and its courses found
-module _ (s : List ℕ) (n labels : ℕ) (rows : List CourseRow) (start : Started s n) (courses : Courses s n (rows, labels)) where
+-- what the passes over its start and its courses find, with the readers before, between and after them
+module _ {r t u : BitReader} {n labels : ℕ} {rows : List CourseRow} (begin : r.at ≡ 0) (started : Moves r t 9) (passed : Moves t u (9 * n + 8 * labels))
+    (start : (start_fault r.sheet.now ≡ None) × Started r.sheet.now n) (found : (courses_fault t.sheet.now n ≡ None) × Courses t.sheet.now n (rows, labels)) where
+  abbrev s : List ℕ
+  s = r.sheet.now
+
+  all : Moves r u (9 + (9 * n + 8 * labels))
+  all = moves_more started passed
+
+  courses : (courses_fault s n ≡ None) × Courses s n (rows, labels)
+  courses = subst (λ (x : List ℕ). (courses_fault x n ≡ None) × Courses x n (rows, labels)) started.sheet found
+
+  count : n ≡ course_count s
+  count = start.1.count
+
   front : take n rows ≡ course_rows s (course_count s)
-  front = courses.rows ∙ ap (course_rows s) start.count
+  front = courses.1.rows ∙ ap (course_rows s) count
 
   pub tail_limits : Limits (counts_of (take n rows))
   tail_limits =
-      subst (λ (r : List CourseRow). Limits (counts_of r)) (sym front) (rows_limits s (course_count s) (omega (arith, start.few, start.count)) (omega (arith, start.many, start.count)))
+      subst (λ (x : List CourseRow). Limits (counts_of x)) (sym front) (rows_limits s (course_count s) (omega (arith, start.1.few, count)) (omega (arith, start.1.many, count)))
 
-  module _ (p : ℕ) (at : p ≡ 9 + 9 * n + 8 * labels) (started : start_fault s ≡ None) (good : courses_fault s n ≡ None) where
-    end : p ≡ bars_place s
-    end = let e = ap (label s) start.count in omega (arith, start.count, courses.labels)
+  choices : labels ≡ label s (course_count s)
+  choices = courses.1.labels ∙ ap (label s) count
 
-    moved : tail_fault s (counts_of (take n rows)) p ≡ tail_fault s (counts_of (course_rows s (course_count s))) (bars_place s)
-    moved = λ i. tail_fault s (counts_of (front i)) (end i)
+  end : u.at ≡ bars_place s
+  end = omega (arith, begin, all.place, choices, count)
 
-    clean : courses_fault s (course_count s) ≡ None
-    clean = subst (λ (k : ℕ). courses_fault s k ≡ None) start.count good
+  clean : courses_fault s (course_count s) ≡ None
+  clean = subst (λ (k : ℕ). courses_fault s k ≡ None) count courses.0
 
-    pub whole_verdict : tail_fault s (counts_of (take n rows)) p ≡ verdict s
-    whole_verdict = rw (started, clean) moved
+  -- the verdict is then the first fault from the number of bars on
+  pub whole_verdict : tail_fault u.sheet.now (counts_of (take n rows)) u.at ≡ verdict s
+  whole_verdict =
+      let first_parts : tail_fault s (counts_of (course_rows s (course_count s))) (bars_place s) ≡ verdict s = rw (start.0, clean) refl in
+      (λ i. tail_fault (all.sheet i) (counts_of (front i)) (end i)) ∙ first_parts
 
-    pub head_of : (m : ℕ) (few : n ≤ 24) → m ≡ val s p 12 → HeadOf s (record { rows = rows; counts = record { courses = n; choices = labels; bars = m }; few = few })
-    head_of m few e =
-        let labels-is : labels ≡ label s (course_count s) = courses.labels ∙ ap (label s) start.count in
-        let bars_is : m ≡ bar_count s = e ∙ ap (λ (q : ℕ). val s q 12) end in
-        let count = start.count in
-        record {
-          counts = λ i. record { courses = count i; choices = labels-is i; bars = bars_is i };
-          rows = courses.rows ∙ ap (course_rows s) start.count;
-        }
+  -- and a fault from there on is the sheet's
+  pub tail_fault_lem : (f : Fault) → tail_fault u.sheet.now (counts_of (take n rows)) u.at ≡ Some f → verdict s ≡ Some f
+  tail_fault_lem f h = sym whole_verdict ∙ h
+
+  pub head_of : (m : ℕ) (few : n ≤ 24) → m ≡ val u.sheet.now u.at 12 → HeadOf s (record { rows = rows; counts = record { courses = n; choices = labels; bars = m }; few = few })
+  head_of m few is =
+      let bars : m ≡ bar_count s = rw (all.sheet, end) at is in
+      record { counts = λ i. record { courses = count i; choices = choices i; bars = bars i }; rows = front }

@@ -1,6 +1,7 @@
+pub mod FaultLaws
+pub mod ReaderLaws
 pub mod RowLaws
 pub mod Places
-pub mod BarLaws
 pub mod HeadLaws
 pub mod CleanLaws
 pub mod ReadLaws

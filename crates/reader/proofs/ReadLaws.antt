@@ -24,14 +24,11 @@ module _ (s : List ℕ) (h : Head) (is : HeadOf s h) where
   pub courses_is : h.counts.courses ≡ course_count s
   courses_is = ap (λ (c : Counts). c.courses) is.counts
 
-  pub choices_is : h.counts.choices ≡ label s (course_count s)
-  choices_is = ap (λ (c : Counts). c.choices) is.counts
-
   pub bars_is : h.counts.bars ≡ bar_count s
   bars_is = ap (λ (c : Counts). c.bars) is.counts
 
-  pub few_choices : h.counts.choices ≤ 192
-  few_choices = omega (arith, choices_is, label_le s (course_count s), courses_is, h.few)
+  pub few_courses : course_count s ≤ 24
+  few_courses = omega (arith, courses_is, h.few)
 
   pub few_bars : h.counts.bars ≤ 4095
   few_bars = omega (arith, bars_is, val_lt s (bars_place s) 12)
@@ -42,14 +39,14 @@ courses_long s cs is = ap (λ (rows : List CourseRow). length rows) is ∙ lengt
 
 module _ (s : List ℕ) (n : Counts) (is : n ≡ counts s) (clean : verdict s ≡ None) where
   -- lists that hold the sheet's rows in their fronts, and the rest as it was
-  pub filled : (cs rows : List CourseRow) (hs hs' : List ChoiceRow) (bs bars : List BarRow) (k q m : ℕ) → room_fault n (length cs) (length hs) (length bs) ≡ None → rows ≡ course_rows s (course_count s) → k ≡ course_count s → take (label s k) hs' ≡ choice_rows s k → drop (label s k) hs' ≡ drop (label s k) hs → q ≡ bars_place s + 12 → m ≡ bar_count s → bars ≡ bar_rows s q m → Filled s cs (rows ++ drop n.courses cs) hs hs' bs (bars ++ drop n.bars bs) n
-  filled cs rows hs hs' bs bars k q m room courses count front rest at some last =
+  pub filled : (cs rows : List CourseRow) (hs hs' : List ChoiceRow) (bs bars : List BarRow) (k m : ℕ) → room_fault n (length cs) (length hs) (length bs) ≡ None → rows ≡ course_rows s (course_count s) → k ≡ course_count s → take (label s k) hs' ≡ choice_rows s k → drop (label s k) hs' ≡ drop (label s k) hs → m ≡ bar_count s → bars ≡ bar_rows s (bars_place s + 12) m → Filled s cs (rows ++ drop n.courses cs) hs hs' bs (bars ++ drop n.bars bs) n
+  filled cs rows hs hs' bs bars k m room courses count front rest some last =
       let lc : length rows ≡ n.courses = courses_long s rows courses ∙ ap (λ (x : Counts). x.courses) (sym is) in
       let lh : label s k ≡ n.choices = ap (label s) count ∙ ap (λ (x : Counts). x.choices) (sym is) in
-      let lb : length bars ≡ n.bars = ap (λ (bs : List BarRow). length bs) last ∙ length-rows_of (λ i. bar_at s (q + 16 * i)) m ∙ some ∙ ap (λ (x : Counts). x.bars) (sym is) in
+      let lb : length bars ≡ n.bars = ap (λ (bs : List BarRow). length bs) last ∙ length-rows_of (λ i. bar_at s (bars_place s + 12 + 16 * i)) m ∙ some ∙ ap (λ (x : Counts). x.bars) (sym is) in
       let a : take n.courses (rows ++ drop n.courses cs) ≡ course_rows s (course_count s) = take_at rows _ n.courses lc ∙ courses in
       let b : take n.choices hs' ≡ choice_rows s (course_count s) = ap (λ (t : ℕ). take t hs') (sym lh) ∙ front ∙ ap (choice_rows s) count in
-      let d : take n.bars (bars ++ drop n.bars bs) ≡ bar_rows s (bars_place s + 12) (bar_count s) = take_at bars _ n.bars lb ∙ last ∙ (λ i. bar_rows s (at i) (some i)) in
+      let d : take n.bars (bars ++ drop n.bars bs) ≡ bar_rows s (bars_place s + 12) (bar_count s) = take_at bars _ n.bars lb ∙ last ∙ ap (bar_rows s (bars_place s + 12)) some in
       record {
         clean = rw clean (subst (λ (x : Counts). room_fault x (length cs) (length hs) (length bs) ≡ None) is room);
         answer = is;

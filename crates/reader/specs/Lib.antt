@@ -1,4 +1,5 @@
 pub mod Decoded
 pub mod Passes
+pub mod Readers
 pub mod Reading
 pub mod Verdict

@@ -1,54 +1,51 @@
 // Rows as the bits mean them, with zeros past the end of the sheet.
 ghost use Rattle.std.specs.Prelude.{◌≡◌, ℕ, ◌^◌, ◌<◌, List};
 ghost use Rattle.reader.specs.Decoded.{bar_at, choice_at};
+ghost use Rattle.reader.specs.Readers.{Moves};
 
-use crate::fields::value;
+use crate::fields::BitReader;
 use layout::rows::{BarRow, ChoiceRow};
+use layout::widths::{CHOICE_WIDTH, COURSE_WIDTH, EVENING_WIDTH, ROOM_WIDTH};
 
 // A row that stands in a sheet in a fixed number of bits.
 pub(crate) trait Decode: Copy {
     // How many bits the row takes.
-    const BITS: usize;
-
-    ghost BITS: { ℕ };
+    ghost bits: { ℕ };
 
     // The row that the bits of a sheet from a place on mean.
     ghost row_at: { List ℕ → ℕ → Self };
 
-    // The row at bit `at`.
-    fn decode(sheet: &[u8], at: usize) -> Self
-        requires early { at < 2 ^ 30 }
-        ensures value { result ≡ row_at sheet.now at };
+    // The next row.
+    fn decode(reader: &mut BitReader) -> Self
+        requires early { reader.old.at < 2 ^ 30 }
+        ensures value { result ≡ row_at reader.old.sheet.now reader.old.at }
+        ensures next { Moves reader.old reader.new bits };
 }
 
 // 3 bits for the evening and 5 for the room.
 impl Decode for ChoiceRow {
-    const BITS: usize = 8;
-
-    ghost BITS = { 8 };
+    ghost bits = { 8 };
 
     ghost row_at = { choice_at };
 
-    fn decode(sheet: &[u8], at: usize) -> ChoiceRow {
-        let evening = value(sheet, at, 3) as u8;
-        let room = value(sheet, at + 3, 5) as u8;
+    fn decode(reader: &mut BitReader) -> ChoiceRow {
+        let evening = reader.value(EVENING_WIDTH) as u8;
+        let room = reader.value(ROOM_WIDTH) as u8;
         ChoiceRow { evening, room }
     }
 }
 
 // 5 bits for the course and 3 for its choice, and again for the higher course.
 impl Decode for BarRow {
-    const BITS: usize = 16;
-
-    ghost BITS = { 16 };
+    ghost bits = { 16 };
 
     ghost row_at = { bar_at };
 
-    fn decode(sheet: &[u8], at: usize) -> BarRow {
-        let course = value(sheet, at, 5) as u8;
-        let choice = value(sheet, at + 5, 3) as u8;
-        let higher = value(sheet, at + 8, 5) as u8;
-        let partner = value(sheet, at + 13, 3) as u8;
+    fn decode(reader: &mut BitReader) -> BarRow {
+        let course = reader.value(COURSE_WIDTH) as u8;
+        let choice = reader.value(CHOICE_WIDTH) as u8;
+        let higher = reader.value(COURSE_WIDTH) as u8;
+        let partner = reader.value(CHOICE_WIDTH) as u8;
         BarRow {
             course,
             choice,

@@ -4,7 +4,8 @@ ghost use Rattle.std.specs.Prelude.{◌≡◌, ◌≤◌, take};
 use draft::shape::MAX_COURSES;
 use layout::rows::{Counts, CourseRow};
 
-// The course rows, in the front of a table, and how many rows of each kind there are.
+// The course rows, in the front of a fixed table, since nothing is allocated, and how many rows of each
+// kind there are.
 #[derive(Clone, Copy)]
 pub(crate) struct Head {
     pub(crate) rows: [CourseRow; MAX_COURSES],

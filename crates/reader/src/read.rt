@@ -6,12 +6,13 @@ ghost use Rattle.reader.specs.Reading.{Reading};
 ghost use Rattle.reader.specs.Verdict.{room_fault};
 
 use crate::check::check_head;
-use crate::courses::place;
+use crate::fields::BitReader;
 use crate::fill::{fill, fill_choices};
 use draft::fault::Fault;
 use draft::refusal::Refusal;
 use layout::faults::ensure;
 use layout::rows::{BarRow, ChoiceRow, Counts, CourseRow};
+use layout::widths::{BARS_WIDTH, FIRST_COURSE};
 
 // Whether lists of these lengths have room for so many rows.
 fn check_room(counts: Counts, courses: usize, choices: usize, bars: usize) -> Result<(), Fault>
@@ -34,10 +35,14 @@ pub fn read(
     let head = check_head(sheet)?;
     let counts = head.counts;
     check_room(counts, courses.len(), choices.len(), bars.len())?;
-    courses[..counts.courses].copy_from_slice(head.courses());
-    fill_choices(sheet, head.courses(), choices);
-    // The bars stand after the courses and the 12 bits of their number.
-    let at = place(counts.courses, counts.choices) + 12;
-    fill(sheet, at, &mut bars[..counts.bars]);
+    let rows = head.courses();
+    courses[..counts.courses].copy_from_slice(rows);
+    let mut reader = BitReader {
+        sheet,
+        at: FIRST_COURSE,
+    };
+    fill_choices(&mut reader, rows, choices);
+    reader.skip(usize::from(BARS_WIDTH));
+    fill(&mut reader, &mut bars[..counts.bars]);
     Ok(counts)
 }

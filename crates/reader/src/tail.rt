@@ -1,5 +1,5 @@
 // What follows the courses: the bars, and the end of the sheet.
-ghost use Rattle.std.specs.Prelude.{◌≡◌, ◌^◌, ◌<◌, ◌≤◌};
+ghost use Rattle.std.specs.Prelude.{◌≡◌, ◌*◌, ◌^◌, ◌<◌, ◌≤◌, OnOk};
 ghost use Rattle.draft.specs.Limits.{Limits};
 ghost use Rattle.draft.specs.Shapes.{counts};
 ghost use Rattle.bits.specs.Bits.{val};
@@ -7,11 +7,11 @@ ghost use Rattle.layout.specs.Faults.{Tells};
 ghost use Rattle.layout.specs.Layout.{counts_of};
 ghost use Rattle.reader.specs.Decoded.{bar_at};
 ghost use Rattle.reader.specs.Passes.{Yields};
+ghost use Rattle.reader.specs.Readers.{Moves};
 ghost use Rattle.reader.specs.Verdict.{next_fault, bars_fault, bits_fault, fill_fault, tail_fault};
 
 use crate::decode::Decode;
-use crate::fields::field;
-use bits::bit_at;
+use crate::fields::BitReader;
 use draft::fault::Fault;
 use draft::refusal::Refusal;
 use draft::shape::Shape;
@@ -19,69 +19,74 @@ use layout::bars::check_bar;
 use layout::faults::ensure;
 use layout::rows::{BarRow, CourseRow};
 use layout::shapes::shape_of;
+use layout::widths::{BAR_WIDTH, BARS_WIDTH};
 
-// The bar at `at`, where it is good after the bar `before`.
+// The next bar, where it is good after the bar `before`.
 fn check_next(
-    sheet: &[u8],
+    reader: &mut BitReader,
     shape: &Shape,
     before: Option<BarRow>,
-    at: usize,
 ) -> Result<BarRow, Fault>
-    requires early { at < 2 ^ 30 }
-    ensures value { Yields (next_fault sheet.now (counts shape.now) before at) (λ bar. bar ≡ bar_at sheet.now at) result }
+    requires early { reader.old.at < 2 ^ 30 }
+    ensures value { Yields (next_fault reader.old.sheet.now (counts shape.now) before reader.old.at) (λ bar. bar ≡ bar_at reader.old.sheet.now reader.old.at) result }
+    ensures next { OnOk result (Moves reader.old reader.new 16) }
 {
-    field(sheet, at, 16)?;
-    let bar = BarRow::decode(sheet, at);
+    let at = reader.at;
+    reader.check_has(BAR_WIDTH)?;
+    let bar = BarRow::decode(reader);
     check_bar(shape, before, bar, at)?;
     Ok(bar)
 }
 
-// The `count` bars from `at` on.
-fn check_bars(sheet: &[u8], shape: &Shape, at: usize, count: usize) -> Result<(), Fault>
-    requires early { at < 2 ^ 20 }
+// The next `count` bars.
+fn check_bars(reader: &mut BitReader, shape: &Shape, count: usize) -> Result<(), Fault>
+    requires early { reader.old.at < 2 ^ 20 }
     requires few { count ≤ 4095 }
-    ensures value { Tells (bars_fault sheet.now (counts shape.now) at count) result }
+    ensures value { Tells (bars_fault reader.old.sheet.now (counts shape.now) reader.old.at count) result }
+    ensures next { OnOk result (Moves reader.old reader.new (16 * count)) }
 {
     let mut before = None;
-    for k in 0..count {
-        before = Some(check_next(sheet, shape, before, at + BarRow::BITS * k)?);
+    for _ in 0..count {
+        before = Some(check_next(reader, shape, before)?);
     }
     Ok(())
 }
 
-// Zeros in the `count` bits from `at` on.
-fn check_zeros(sheet: &[u8], at: usize, count: usize) -> Result<(), Fault>
-    requires early { at < 2 ^ 32 }
+// Zeros in the next `count` bits.
+fn check_zeros(reader: &mut BitReader, count: usize) -> Result<(), Fault>
+    requires early { reader.old.at < 2 ^ 32 }
     requires few { count < 8 }
-    ensures value { Tells (bits_fault sheet.now at count) result }
+    ensures value { Tells (bits_fault reader.old.sheet.now reader.old.at count) result }
+    ensures next { OnOk result (Moves reader.old reader.new count) }
 {
-    for bit in at..at + count {
-        ensure(bit_at(sheet, bit) == 0, Refusal::Filling, bit)?;
+    for _ in 0..count {
+        let at = reader.at;
+        ensure(reader.bit() == 0, Refusal::Filling, at)?;
     }
     Ok(())
 }
 
-// The fields end at `at`: zeros fill the byte, and no byte follows.
-fn check_end(sheet: &[u8], at: usize) -> Result<(), Fault>
-    requires early { at < 2 ^ 32 }
-    ensures value { Tells (fill_fault sheet.now at) result }
+// The fields end here: zeros fill the byte, and no byte follows.
+fn check_end(reader: &mut BitReader) -> Result<(), Fault>
+    requires early { reader.old.at < 2 ^ 32 }
+    ensures value { Tells (fill_fault reader.old.sheet.now reader.old.at) result }
 {
-    let bytes = at.div_ceil(8);
-    check_zeros(sheet, at, bytes * 8 - at)?;
-    ensure(sheet.len() <= bytes, Refusal::Filling, bytes * 8)
+    let bytes = reader.at.div_ceil(8);
+    check_zeros(reader, bytes * 8 - reader.at)?;
+    ensure(reader.sheet.len() <= bytes, Refusal::Filling, reader.at)
 }
 
-// How many bars follow the courses, which end at `at`.
-pub(crate) fn check_tail(sheet: &[u8], courses: &[CourseRow], at: usize) -> Result<usize, Fault>
-    requires early { at < 2 ^ 19 }
+// How many bars follow the courses.
+pub(crate) fn check_tail(reader: &mut BitReader, courses: &[CourseRow]) -> Result<usize, Fault>
+    requires early { reader.old.at < 2 ^ 19 }
     requires limits { Limits (counts_of courses.now) }
-    ensures value { Yields (tail_fault sheet.now (counts_of courses.now) at) (λ m. m ≡ val sheet.now at 12) result }
+    ensures value { Yields (tail_fault reader.old.sheet.now (counts_of courses.now) reader.old.at) (λ m. m ≡ val reader.old.sheet.now reader.old.at 12) result }
 {
     let Ok(shape) = shape_of(courses) else {
         unreachable!()
     };
-    let bars = usize::from(field(sheet, at, 12)?);
-    check_bars(sheet, &shape, at + 12, bars)?;
-    check_end(sheet, at + 12 + BarRow::BITS * bars)?;
+    let bars = usize::from(reader.field(BARS_WIDTH)?);
+    check_bars(reader, &shape, bars)?;
+    check_end(reader)?;
     Ok(bars)
 }

@@ -49,7 +49,7 @@ impl<'a, 'b> Packed<'a, 'b> {
     }
 }
 
-impl Store for Packed<'_, '_> {
+impl<'a, 'b> Store for Packed<'a, 'b> {
     ghost draft = { λ s. packed_draft (counts s.shape.now) s.bits.now };
 
     ghost laws = { λ s. packed_laws s.shape.now s.bits.now };

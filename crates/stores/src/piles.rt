@@ -29,7 +29,7 @@ fn struck<S: Store>(store: &mut S, pairing: Pairing) -> bool
 }
 
 // Lays two what-ifs over a store, strikes a pairing in the upper one, asks for it there by its other
-// name, and takes both off: the store, and what the question answered.
+// name, and takes both off: the store, which comes back in any case, and what the question answered.
 pub fn tried<S: Store>(store: S, pairing: Pairing) -> (S, bool)
     ensures back { result.0 ≡ store }
     ensures struck { result.1 ≡ false }

@@ -5,13 +5,15 @@ use crate::support::{
     NO_BAR, NO_BYTE, NO_CHOICE, NO_COURSE, bar, choice, course, fault, same, write_rows,
 };
 use draft::refusal::Refusal;
-use layout::rows::{BarRow, ChoiceRow, Counts, CourseRow, MOST_BARS};
+use layout::rows::{BarRow, ChoiceRow, Counts, CourseRow};
 use sheet::recheck::recheck;
 use std::alloc::{AllocError, Global};
 use std::process::Abort;
 use std::test::Fail;
 
 const BARS: usize = 4416;
+
+const MOST_BARS: usize = 4095;
 
 const BITS_WITHOUT_BARS: usize = 9 + 24 * 9 + 192 * 8 + 12;
 

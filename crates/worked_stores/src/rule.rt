@@ -12,6 +12,7 @@ use stores::rule::Rule;
 // A sheet of two courses: both have teacher 5.
 const SHEET: [u8; 8] = [0x11, 0x11, 0x40, 0x48, 0x40, 0xA0, 0x40, 0x00];
 
+// As in the other crate of tests; neither rests on the other.
 fn course(teacher: u8, choices: u8) -> CourseRow {
     CourseRow { teacher, choices }
 }

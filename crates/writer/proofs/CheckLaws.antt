@@ -8,13 +8,15 @@ use Rattle.layout.specs.declared.rows.BarRow.{BarRow}
 use Rattle.layout.specs.declared.rows.ChoiceRow.{ChoiceRow}
 use Rattle.layout.specs.declared.rows.CourseRow.{CourseRow}
 use Rattle.layout.specs.Faults.{first, Tells}
-use Rattle.layout.specs.Layout.{counts_of, LawfulCourse}
+use Rattle.layout.specs.Layout.{counts_of, LawfulCourse, Lawful}
 use Rattle.layout.proofs.CountLaws.{counts_length}
 use Rattle.layout.proofs.SizeLaws.{total_le}
+use Rattle.writer.specs.declared.rows_check.CheckedRows.{CheckedRows}
 use Rattle.writer.specs.RowFaults.{no_course, length_fault, courses_fault, bars_fault, rows_fault, place}
 use Rattle.writer.proofs.CourseLaws.{courses_hold}
 use Rattle.writer.proofs.LabelLaws.{label_all}
 use Rattle.writer.proofs.LengthLaws.{lengths_hold}
+use Rattle.writer.proofs.RowLaws.{rows_lawful}
 
 -- a fault told after a test that found none
 tells_after : {U : Type 0} (a b : Option Fault) (r : Result U Fault) → a ≡ None → Tells b r → Tells (first a b) r
@@ -45,3 +47,7 @@ module _ (cs : List CourseRow) (hs : List ChoiceRow) (bs : List BarRow) (lengths
       let at : 21 + 9 * length cs + 8 * length hs ≡ place cs (length cs) + 12 = omega (arith, n.whole, label_all cs (length cs) (omega arith)) in
       tells_after (length_fault cs hs bs) _ r lengths
       (tells_after (courses_fault cs hs (length cs)) _ r courses (subst (λ (x : Option Fault). Tells x r) (λ i. bars_fault (is i) bs (at i) (length bs)) told))
+
+-- rows that passed the check are lawful
+pub lawful_of : (k : CheckedRows) → Lawful k.rows.courses.now k.rows.choices.now k.rows.bars.now
+lawful_of k = rows_lawful k.rows.courses.now k.rows.choices.now k.rows.bars.now k.clean

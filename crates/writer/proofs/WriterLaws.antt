@@ -1,5 +1,5 @@
 -- Fields that a writer of bits puts one after another.
-use Rattle.std.proofs.Common.{◌≡◌, ℕ, ◌+◌, ◌<◌, List, [], ◌++◌, length, get_or, take, drop, sym, refl, ap, ◌∙◌, subst, arith}
+use Rattle.std.proofs.Common.{◌≡◌, ℕ, ◌+◌, ◌<◌, List, ◌++◌, length, get_or, take, drop, sym, ap, ◌∙◌, subst, arith}
 use Rattle.std.specs.List.{flat_map}
 use Rattle.std.proofs.lemmas.List.{at_drop_more}
 use Rattle.layout.specs.declared.rows.ChoiceRow.{ChoiceRow}
@@ -9,15 +9,6 @@ use Rattle.layout.proofs.HoldsLaws.{size-append}
 use Rattle.writer.specs.declared.fields.BitWriter.{BitWriter}
 use Rattle.writer.specs.Writers.{Adds, HasRoom}
 use Rattle.writer.proofs.PutLaws.{puts_more}
-
--- no field is put by doing nothing
-pub adds_none : (s : BitWriter) → Adds s s []
-adds_none s = record {
-  loan = refl;
-  long = refl;
-  place = omega arith;
-  fields = record { holds = tt; before = λ j h. refl; rest = λ k h. refl; after = λ j h. refl };
-}
 
 -- fields after fields
 pub adds_more : {s t u : BitWriter} {fs gs : List Field} → Adds s t fs → Adds t u gs → Adds s u (fs ++ gs)

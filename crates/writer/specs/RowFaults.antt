@@ -5,7 +5,7 @@
 --   bars_fault a bs q m    the first fault of the first m bars, which begin at bit q
 --   rows_fault cs hs bs    the first fault of the rows
 --   write_fault .. room    that, or want of memory for their sheet
-use Rattle.std.specs.Prelude.{ℕ, ◌+◌, ◌*◌, ◌&&◌, List, length, get_or, take, Option, ◌==◌, nat_le, slice_index_or}
+use Rattle.std.specs.Prelude.{ℕ, ◌+◌, ◌*◌, ◌&&◌, List, length, take, Option, ◌==◌, nat_le, slice_index_or}
 use Rattle.draft.specs.declared.fault.Fault.{Fault}
 use Rattle.draft.specs.declared.refusal.Refusal.TheVariants.{Limit, Evening, Memory}
 use Rattle.layout.specs.declared.rows.BarRow.{BarRow}
@@ -54,7 +54,7 @@ courses_fault cs hs = first_of (λ c. course_fault (slice_index_or cs c no_cours
 
 -- the first m bars, the first of them at bit q; a is the list of choice counts
 abbrev pub bars_fault : List ℕ → List BarRow → ℕ → ℕ → Option Fault
-bars_fault a bs q = first_of (λ k. bar_fault a (prior (λ i. get_or bs i no_bar) k) (slice_index_or bs k no_bar) (q + 16 * k))
+bars_fault a bs q = first_of (λ k. bar_fault a (prior (λ i. slice_index_or bs i no_bar) k) (slice_index_or bs k no_bar) (q + 16 * k))
 
 -- list lengths first, then the fields in their order
 abbrev pub rows_fault : List CourseRow → List ChoiceRow → List BarRow → Option Fault

@@ -1,34 +1,18 @@
 // The fields of rows put into bytes.
 ghost use Rattle.std.specs.Prelude.{◌≡◌, ◌≤◌, [], ◌∷◌, List, length};
 ghost use Rattle.std.specs.List.{flat_map, AllByRecursion};
-ghost use Rattle.layout.specs.Layout.{Field, choice_fields, course_fields, courses_fields, bar_fields, layout, total, LawfulCourse, LawfulChoice, Lawful};
+ghost use Rattle.layout.specs.Layout.{Field, choice_fields, course_fields, courses_fields, bar_fields, layout, total, LawfulCourse, LawfulChoice};
 ghost use Rattle.writer.specs.Putting.{FitBar};
 ghost use Rattle.writer.specs.Writers.{Adds, HasRoom};
 
 use crate::fields::BitWriter;
+use crate::rows_check::CheckedRows;
 use layout::choice::Choice;
-use layout::rows::{BarRow, ChoiceRow, CourseRow, Rows};
-
-const EDITION: u16 = 1;
-
-// The widths of the fields, in bits.
-const EDITION_WIDTH: u8 = 4;
-
-const COURSES_WIDTH: u8 = 5;
-
-const COUNT_WIDTH: u8 = 3;
-
-const TEACHER_WIDTH: u8 = 6;
-
-const EVENING_WIDTH: u8 = 3;
-
-const ROOM_WIDTH: u8 = 5;
-
-const BARS_WIDTH: u8 = 12;
-
-const COURSE_WIDTH: u8 = 5;
-
-const CHOICE_WIDTH: u8 = 3;
+use layout::rows::{BarRow, ChoiceRow, CourseRow};
+use layout::widths::{
+    BARS_WIDTH, CHOICE_WIDTH, COUNT_WIDTH, COURSE_WIDTH, COURSES_WIDTH, EDITION, EDITION_WIDTH,
+    EVENING_WIDTH, ROOM_WIDTH, TEACHER_WIDTH,
+};
 
 // A row that is written by itself.
 trait Put {
@@ -122,11 +106,11 @@ fn put_courses(writer: &mut BitWriter, courses: &[CourseRow], choices: &[ChoiceR
 }
 
 // Puts the whole sheet of the rows.
-pub(crate) fn put_sheet(writer: &mut BitWriter, rows: &Rows)
-    requires lawful { Lawful rows.now.courses.now rows.now.choices.now rows.now.bars.now }
-    requires room { HasRoom writer.old (layout rows.now.courses.now rows.now.choices.now rows.now.bars.now) }
-    ensures fields { Adds writer.old writer.new (layout rows.now.courses.now rows.now.choices.now rows.now.bars.now) }
+pub(crate) fn put_sheet(writer: &mut BitWriter, checked: &CheckedRows)
+    requires room { HasRoom writer.old (layout checked.now.rows.courses.now checked.now.rows.choices.now checked.now.rows.bars.now) }
+    ensures fields { Adds writer.old writer.new (layout checked.now.rows.courses.now checked.now.rows.choices.now checked.now.rows.bars.now) }
 {
+    let rows = &checked.rows;
     writer.put(EDITION_WIDTH, EDITION);
     writer.put(COURSES_WIDTH, rows.courses.len() as u16);
     put_courses(writer, rows.courses, rows.choices);

@@ -1,5 +1,5 @@
 // The first fault of rows that are to be written.
-ghost use Rattle.std.specs.Prelude.{◌≡◌, ◌+◌, ◌*◌, ◌^◌, ◌<◌, ◌≤◌, length};
+ghost use Rattle.std.specs.Prelude.{◌≡◌, ◌+◌, ◌*◌, ◌^◌, ◌<◌, ◌≤◌, length, None, IfOk};
 ghost use Rattle.draft.specs.Shapes.{counts};
 ghost use Rattle.layout.specs.Faults.{Tells};
 ghost use Rattle.layout.specs.Layout.{total};
@@ -21,8 +21,14 @@ fn check_choice(row: ChoiceRow, at: usize) -> Result<(), Fault>
 {
     match Choice::try_from(row) {
         Ok(_) => Ok(()),
-        Err(Refusal::Evening) => ensure(false, Refusal::Evening, at),
-        Err(refusal) => ensure(false, refusal, at + 3),
+        Err(Refusal::Evening) => Err(Fault::Sheet {
+            refusal: Refusal::Evening,
+            bit: at,
+        }),
+        Err(refusal) => Err(Fault::Sheet {
+            refusal,
+            bit: at + 3,
+        }),
     }
 }
 
@@ -110,15 +116,24 @@ fn check_bars(shape: &Shape, bars: &[BarRow], at: usize) -> Result<(), Fault>
     Ok(())
 }
 
+// Rows without a fault. They have a sheet.
+#[derive(Clone, Copy)]
+pub(crate) struct CheckedRows<'a> {
+    pub(crate) rows: Rows<'a>,
+    ghost clean: { rows_fault rows.courses.now rows.choices.now rows.bars.now ≡ None },
+}
+
 // The list lengths, then the fields in their order. Courses without a fault have a shape.
-pub(crate) fn check_rows(rows: &Rows) -> Result<(), Fault>
+pub(crate) fn check_rows<'a>(rows: &Rows<'a>) -> Result<CheckedRows<'a>, Fault>
     ensures told { Tells (rows_fault rows.now.courses.now rows.now.choices.now rows.now.bars.now) result }
+    ensures rows { IfOk result (λ checked. checked.rows ≡ rows.now) }
 {
     check_lengths(rows)?;
     check_courses(rows.courses, rows.choices)?;
     let at = 21 + 9 * rows.courses.len() + 8 * rows.choices.len();
-    match shape_of(rows.courses) {
-        Ok(shape) => check_bars(&shape, rows.bars, at),
-        Err(_) => unreachable!(),
-    }
+    let Ok(shape) = shape_of(rows.courses) else {
+        unreachable!()
+    };
+    check_bars(&shape, rows.bars, at)?;
+    Ok(CheckedRows { rows: *rows })
 }

@@ -1,21 +1,21 @@
 // Writing the sheet of rows.
 ghost use Rattle.std.specs.Prelude.{◌≡◌, ◌≤◌, ◌++◌, length, take, drop, replicate};
-ghost use Rattle.layout.specs.Layout.{Lawful, IsSheet, bytes_of};
+ghost use Rattle.layout.specs.Layout.{IsSheet, bytes_of};
 ghost use Rattle.writer.specs.Writing.{Writing};
 
 use crate::fields::BitWriter;
 use crate::put::put_sheet;
-use crate::rows_check::check_rows;
+use crate::rows_check::{CheckedRows, check_rows};
 use draft::fault::Fault;
 use draft::refusal::Refusal;
 use layout::faults::ensure;
 use layout::rows::Rows;
 
 // How many bytes the sheet of the rows takes.
-fn sheet_bytes(rows: &Rows) -> usize
-    requires lawful { Lawful rows.now.courses.now rows.now.choices.now rows.now.bars.now }
-    ensures value { result ≡ bytes_of rows.now.courses.now rows.now.choices.now rows.now.bars.now }
+fn sheet_bytes(checked: &CheckedRows) -> usize
+    ensures value { result ≡ bytes_of checked.now.rows.courses.now checked.now.rows.choices.now checked.now.rows.bars.now }
 {
+    let rows = &checked.rows;
     (21 + 9 * rows.courses.len() + 8 * rows.choices.len() + 16 * rows.bars.len() + 7) / 8
 }
 
@@ -28,16 +28,15 @@ fn clear(out: &mut [u8], n: usize)
 }
 
 // Makes the first `bytes` bytes be the sheet of the rows, which takes that many.
-fn fill(out: &mut [u8], bytes: usize, rows: &Rows)
-    requires lawful { Lawful rows.now.courses.now rows.now.choices.now rows.now.bars.now }
-    requires all { bytes ≡ bytes_of rows.now.courses.now rows.now.choices.now rows.now.bars.now }
+fn fill(out: &mut [u8], bytes: usize, checked: &CheckedRows)
+    requires all { bytes ≡ bytes_of checked.now.rows.courses.now checked.now.rows.choices.now checked.now.rows.bars.now }
     requires room { bytes ≤ length out.old }
-    ensures sheet { IsSheet (take bytes out.new) rows.now.courses.now rows.now.choices.now rows.now.bars.now }
+    ensures sheet { IsSheet (take bytes out.new) checked.now.rows.courses.now checked.now.rows.choices.now checked.now.rows.bars.now }
     ensures rest { drop bytes out.new ≡ drop bytes out.old }
 {
     clear(out, bytes);
     let mut writer = BitWriter { out, at: 0 };
-    put_sheet(&mut writer, rows);
+    put_sheet(&mut writer, checked);
 }
 
 // Writes the sheet of the rows into the front of `out` and answers its length in bytes.
@@ -45,9 +44,9 @@ fn fill(out: &mut [u8], bytes: usize, rows: &Rows)
 pub fn write(rows: &Rows, out: &mut [u8]) -> Result<usize, Fault>
     ensures cases { Writing rows.now.courses.now rows.now.choices.now rows.now.bars.now out.old out.new result }
 {
-    check_rows(rows)?;
-    let bytes = sheet_bytes(rows);
+    let checked = check_rows(rows)?;
+    let bytes = sheet_bytes(&checked);
     ensure(bytes <= out.len(), Refusal::Memory, 0)?;
-    fill(out, bytes, rows);
+    fill(out, bytes, &checked);
     Ok(bytes)
 }

@@ -1,46 +1,36 @@
-use Rattle.std.proofs.Common.{◌≡◌, ℕ, length, ap, subst, ◌∙◌, arith, None}
+use Rattle.std.proofs.Common.{◌≡◌, length, ap, ◌∙◌, arith}
 use Rattle.std.proofs.lemmas.List.{length-take-le}
 use Rattle.std.proofs.lemmas.Result.{err_from_is_err_and}
+use Rattle.layout.proofs.FirstLaws.{first_of_more, first_of_stop}
 use Rattle.layout.specs.declared.rows.CourseRow.{CourseRow}
-use Rattle.reader.specs.Decoded.{place, label}
-use Rattle.reader.specs.Verdict.{courses_fault}
-use Rattle.reader.proofs.Places.{courses_stop, courses_more, label_next, table_more, table_done}
+use Rattle.reader.specs.Decoded.{course_at, place}
+use Rattle.reader.proofs.Places.{label_next}
+use Rattle.reader.proofs.RowLaws.{front_more}
 use Rattle.reader.proofs.courses.check_courses.Goals as goal
 
-pub returns-in_err-row : goal.returns-in_err-row
-returns-in_err-row c =
+pub returns-in_err-row-clause-value : goal.returns-in_err-row-clause-value
+returns-in_err-row-clause-value c =
     let p = err_from_is_err_and c.from_residual.result c.from_residual.ensures.1 in
-    let at : c.place.result ≡ place c.args.sheet.now c.loop-c.c = omega arith in
-    let long : length c.loop-c.row-items ≡ c.args.n = c.loop-c.auto.row-items ∙ length-take-le c.args.n _ (omega arith) in
-    rw (p.1, p.2) (record { value = courses_stop c.args.sheet.now c.loop-c.c c.args.n _ _ (omega arith) at c.loop-c.invariant.clean c.in_err-row.ensures.value })
+    let inv = c.loop-row.invariant in
+    let here : c.loop-row.reader.at ≡ place c.args.reader.now.sheet.now c.loop-row.row-index = omega arith in
+    let long : length c.loop-row.row-items ≡ c.args.n = c.loop-row.auto.row-items ∙ length-take-le c.args.n _ (omega arith) in
+    rw (p.1, p.2) (first_of_stop _ c.loop-row.row-index c.args.n _ (omega arith) inv.clean (rw (inv.moved.sheet, here) at c.in_err-row.ensures.value))
 
-pub loop-c-preserved : goal.loop-c-preserved
-loop-c-preserved c =
-    let s = c.args.sheet.now in
-    let told = c.in_ok-row.ensures.value in
-    let at : c.place.result ≡ place s c.loop-c.c = omega arith in
-    let count = ap (λ (r : CourseRow). r.choices) told.1.0 in
-    let most = told.1.1 in
-    let more = label_next s c.loop-c.c c.place.result at in
+pub loop-row-preserved : goal.loop-row-preserved
+loop-row-preserved c =
+    let s = c.args.reader.now.sheet.now in
+    let k = c.loop-row.row-index in
+    let inv = c.loop-row.invariant in
+    let here : c.loop-row.reader.at ≡ place s k = omega arith in
+    let told = rw (inv.moved.sheet, here) at c.in_ok-row.ensures.value in
+    let moved = c.in_ok-row.ensures.next in
+    let row = told.1.0 in
+    let count = ap (λ (r : CourseRow). r.choices) row in
+    let next = label_next s k in
     record {
-      clean = courses_more s c.loop-c.c _ at c.loop-c.invariant.clean told.0;
+      clean = first_of_more _ k inv.clean told.0;
       labels = omega arith;
       few = omega arith;
-      rows = table_more s c.loop-c.row-items c.loop-c.c _ _ at told.1.0 (omega arith) c.loop-c.invariant.rows;
-    }
-
-pub returns : goal.returns
-returns c =
-    let s = c.args.sheet.now in
-    let long : length c.loop-c.row-items ≡ c.args.n = c.loop-c.auto.row-items ∙ length-take-le c.args.n _ (omega arith) in
-    let done : c.loop-c.c ≡ c.args.n = omega arith in
-    record {
-      value = (
-        subst (λ (n : ℕ). courses_fault s n ≡ None) done c.loop-c.invariant.clean,
-        record {
-          rows = table_done s c.loop-c.row-items _ c.loop-c.c c.args.n c.loop-c.invariant.rows done long;
-          labels = c.loop-c.invariant.labels ∙ ap (label s) done;
-          few = omega arith;
-        },
-      );
+      rows = front_more (λ c. course_at s (place s c)) c.loop-row.row-items k _ inv.rows row (omega arith);
+      moved = record { sheet = moved.sheet ∙ inv.moved.sheet; place = omega arith };
     }

@@ -1,13 +1,16 @@
-use Rattle.std.proofs.Common.{◌≡◌, ◌*◌, ◌≤◌, take, None}
+use Rattle.std.proofs.Common.{◌≡◌, ◌+◌, ◌*◌, ◌≤◌, take, None}
 use Rattle.reader.specs.Decoded.{label, course_rows}
+use Rattle.reader.specs.Readers.{Moves}
 use Rattle.reader.specs.Verdict.{courses_fault}
 use Rattle.reader.proofs.courses.check_courses.Given as goal
 
-abbrev pub invariant-loop-c : goal.invariant-loop-c
-invariant-loop-c l =
+abbrev pub invariant-loop-row : goal.invariant-loop-row
+invariant-loop-row l =
+    let s = l.initial.reader.sheet.now in
     record {
-      clean : courses_fault l.sheet l.c ≡ None;
-      labels : l.labels ≡ label l.sheet l.c;
-      few : l.labels ≤ 8 * l.c;
-      rows : take l.c l.row-items ≡ course_rows l.sheet l.c;
+      clean : courses_fault s l.row-index ≡ None;
+      labels : l.labels ≡ label s l.row-index;
+      few : l.labels ≤ 8 * l.row-index;
+      rows : take l.row-index l.row-items ≡ course_rows s l.row-index;
+      moved : Moves l.initial.reader l.reader (9 * l.row-index + 8 * l.labels);
     }

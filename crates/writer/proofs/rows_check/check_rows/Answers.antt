@@ -1,4 +1,5 @@
-use Rattle.std.proofs.Common.{arith}
+use Rattle.std.proofs.Common.{Err, arith}
+use Rattle.std.proofs.lemmas.Result.{err_from_is_err_and}
 use Rattle.writer.proofs.CheckLaws.{few_checked, limits_hold, rows_tell}
 use Rattle.writer.proofs.LengthLaws.{lengths_hold}
 use Rattle.writer.proofs.rows_check.check_rows.Goals as goal
@@ -20,8 +21,9 @@ check_bars-requires c =
     record { early = omega (arith, n.many); many = n.bars }
 
 pub unreachable-requires : goal.unreachable-requires
-unreachable-requires c = c.in-Err.ensures.value.0 (limits_hold _ _ _ c.in_ok-check_lengths.ensures.told c.in_ok-check_courses.ensures.told)
+unreachable-requires c = c.in_default.ensures.value.0 (limits_hold _ _ _ c.in_ok-check_lengths.ensures.told c.in_ok-check_courses.ensures.told)
 
-pub returns : goal.returns
-returns c =
-    record { told = rows_tell _ _ _ c.in_ok-check_lengths.ensures.told c.in_ok-check_courses.ensures.told _ c.check_bars.result c.in-Ok.ensures.value c.check_bars.ensures.told }
+pub returns-in_err-check_bars-clause-told : goal.returns-in_err-check_bars-clause-told
+returns-in_err-check_bars-clause-told c =
+    let p = err_from_is_err_and c.from_residual-in_err-check_bars.result c.from_residual-in_err-check_bars.ensures.1 in
+    rw (p.1, p.2) (rows_tell _ _ _ c.in_ok-check_lengths.ensures.told c.in_ok-check_courses.ensures.told {U = Unit {0}} _ (Err c.in_err-check_bars.field-0.0) c.in-Ok.ensures.value c.in_err-check_bars.ensures.told)

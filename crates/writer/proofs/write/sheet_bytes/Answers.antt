@@ -1,18 +1,19 @@
 use Rattle.std.proofs.Common.{ℕ, ◌+◌, ◌/◌, sym, ap, arith}
+use Rattle.writer.proofs.CheckLaws.{lawful_of}
 use Rattle.writer.proofs.PutSheet.{few_choices, sheet_size}
 use Rattle.writer.proofs.write.sheet_bytes.Goals as goal
 
 pub overflow_mul-result-2 : goal.overflow_mul-result-2
-overflow_mul-result-2 c = omega (arith, few_choices _ _ _ c.requires.lawful)
+overflow_mul-result-2 c = omega (arith, few_choices _ _ _ (lawful_of c.args.checked.now))
 
 pub overflow_add-result-2 : goal.overflow_add-result-2
-overflow_add-result-2 c = omega (arith, few_choices _ _ _ c.requires.lawful, c.requires.lawful.many)
+overflow_add-result-2 c = omega (arith, few_choices _ _ _ (lawful_of c.args.checked.now), (lawful_of c.args.checked.now).many)
 
 pub overflow_add-result-3 : goal.overflow_add-result-3
-overflow_add-result-3 c = omega (arith, few_choices _ _ _ c.requires.lawful, c.requires.lawful.many, c.requires.lawful.bars)
+overflow_add-result-3 c = omega (arith, few_choices _ _ _ (lawful_of c.args.checked.now), (lawful_of c.args.checked.now).many, (lawful_of c.args.checked.now).bars)
 
 pub overflow_add-result-4 : goal.overflow_add-result-4
-overflow_add-result-4 c = omega (arith, few_choices _ _ _ c.requires.lawful, c.requires.lawful.many, c.requires.lawful.bars)
+overflow_add-result-4 c = omega (arith, few_choices _ _ _ (lawful_of c.args.checked.now), (lawful_of c.args.checked.now).many, (lawful_of c.args.checked.now).bars)
 
 pub returns : goal.returns
-returns c = record { value = ap (λ (n : ℕ). (n + 7) / 8) (sym (sheet_size _ _ _ c.requires.lawful)) }
+returns c = record { value = ap (λ (n : ℕ). (n + 7) / 8) (sym (sheet_size _ _ _ (lawful_of c.args.checked.now))) }
