@@ -92,6 +92,12 @@ label_below a x j h l = omega (arith, sum_more a x.course, sum_mono a (x.course 
 pub label_in : (a : List ℕ) (x : Side) → x.choice < get_or a x.course 0 → label a x < sum a
 label_in a x l = omega (arith, sum_more a x.course, sum_by-take-le (λ n. n) a (x.course + 1))
 
+-- the label of a choice that is there: its course's first label plus its number, below 192
+pub label_at : (s : Shape) (x : Side) → x.choice < get_or (counts s) x.course 0 → (get_or s.firsts x.course 0 + x.choice ≡ label (counts s) x) × (label (counts s) x < 192)
+label_at s x h =
+    let first = firsts_at s x.course (omega (arith, course_in s x.course x.choice h)) in
+    (omega (arith, first), omega (arith, label_in (counts s) x h, labels_most (counts s) (limits s)))
+
 -- the widest shape's first labels
 pub widest_at : (k : ℕ) → k ≤ 24 → get_or (0 ∷ 8 ∷ 16 ∷ 24 ∷ 32 ∷ 40 ∷ 48 ∷ 56 ∷ 64 ∷ 72 ∷ 80 ∷ 88 ∷ 96 ∷ 104 ∷ 112 ∷ 120 ∷ 128 ∷ 136 ∷ 144 ∷ 152 ∷ 160 ∷ 168 ∷ 176 ∷ 184 ∷ 192 ∷ []) k 0 ≡ 8 * k
 widest_at k h = get_or-map-range_with_len (λ n. 8 * n) 0 25 k k 0 (omega arith) (omega arith)

@@ -7,13 +7,13 @@ pub overflow_mul-result-2 : goal.overflow_mul-result-2
 overflow_mul-result-2 c = omega (arith, few_choices _ _ _ (lawful_of c.args.checked.now))
 
 pub overflow_add-result-2 : goal.overflow_add-result-2
-overflow_add-result-2 c = omega (arith, few_choices _ _ _ (lawful_of c.args.checked.now), (lawful_of c.args.checked.now).many)
+overflow_add-result-2 c = let l = lawful_of c.args.checked.now in omega (arith, few_choices _ _ _ l, l.many)
 
 pub overflow_add-result-3 : goal.overflow_add-result-3
-overflow_add-result-3 c = omega (arith, few_choices _ _ _ (lawful_of c.args.checked.now), (lawful_of c.args.checked.now).many, (lawful_of c.args.checked.now).bars)
+overflow_add-result-3 c = let l = lawful_of c.args.checked.now in omega (arith, few_choices _ _ _ l, l.many, l.bars)
 
 pub overflow_add-result-4 : goal.overflow_add-result-4
-overflow_add-result-4 c = omega (arith, few_choices _ _ _ (lawful_of c.args.checked.now), (lawful_of c.args.checked.now).many, (lawful_of c.args.checked.now).bars)
+overflow_add-result-4 c = let l = lawful_of c.args.checked.now in omega (arith, few_choices _ _ _ l, l.many, l.bars)
 
 pub returns : goal.returns
 returns c = record { value = ap (λ (n : ℕ). (n + 7) / 8) (sym (sheet_size _ _ _ (lawful_of c.args.checked.now))) }

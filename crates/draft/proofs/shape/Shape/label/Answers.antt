@@ -3,7 +3,7 @@ use Rattle.std.proofs.lemmas.Bool.{cond-true, lt-ltb}
 use Rattle.draft.specs.Labels.{there, label}
 use Rattle.draft.specs.Shapes.{counts}
 use Rattle.draft.proofs.PairLaws.{label_same}
-use Rattle.draft.proofs.ShapeLaws.{firsts_at, course_in, label_in, labels_most, limits}
+use Rattle.draft.proofs.ShapeLaws.{course_in, label_at}
 use Rattle.draft.proofs.shape.Shape.label.Goals as goal
 
 pub bounds-self-side : goal.bounds-self-side
@@ -13,20 +13,16 @@ bounds-self-side c =
 
 pub returns-then-side-choices-clause-value : goal.returns-then-side-choices-clause-value
 returns-then-side-choices-clause-value c =
-    let s = c.args.self.now in
+    let a = counts c.args.self.now in
     let x = c.args.side in
-    let here : x.choice < get_or (counts s) x.course 0 = omega (arith, c.choices.ensures.value) in
-    let first = firsts_at s x.course (omega (arith, course_in s x.course x.choice here)) in
-    let is : c.from.result + x.choice ≡ label (counts s) x = omega (arith, c.from.ensures, first) in
-    ap (λ u. Some u) is ∙ sym (cond-true (there (counts s) x) _ _ (lt-ltb x.choice (get_or (counts s) x.course 0) here))
+    let here : x.choice < get_or a x.course 0 = omega (arith, c.choices.ensures.value) in
+    let is : c.from.result + x.choice ≡ label a x = omega (arith, c.from.ensures, (label_at c.args.self.now x here).0) in
+    ap (λ u. Some u) is ∙ sym (cond-true (there a x) _ _ (lt-ltb x.choice (get_or a x.course 0) here))
 
 pub returns-then-side-choices-clause-bound : goal.returns-then-side-choices-clause-bound
 returns-then-side-choices-clause-bound c =
-    let s = c.args.self.now in
-    let x = c.args.side in
-    let here : x.choice < get_or (counts s) x.course 0 = omega (arith, c.choices.ensures.value) in
-    let first = firsts_at s x.course (omega (arith, course_in s x.course x.choice here)) in
-    omega (arith, c.from.ensures, first, label_in (counts s) x here, labels_most (counts s) (limits s))
+    let at = label_at c.args.self.now c.args.side (omega (arith, c.choices.ensures.value)) in
+    omega (arith, c.from.ensures, at.0, at.1)
 
 pub returns-then-side-choices-clause-only : goal.returns-then-side-choices-clause-only
 returns-then-side-choices-clause-only c y there same =

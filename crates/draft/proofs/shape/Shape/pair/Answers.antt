@@ -4,21 +4,17 @@ use Rattle.draft.specs.Shapes.{counts}
 use Rattle.draft.proofs.PairLaws.{label_some, named_says, pair_below, pair_same}
 use Rattle.draft.proofs.shape.Shape.pair.Goals as goal
 
--- both labels were answered, so the pairing joins choices of two courses
-is_named : (c : goal.After-between) → named (counts c.args.self.now) c.args.pairing ≡ true
-is_named c =
+-- both labels were answered, so the pairing joins choices of two courses, and has the number answered
+told : (c : goal.After-between) → (named (counts c.args.self.now) c.args.pairing ≡ true) × (c.between.result ≡ pair_number (counts c.args.self.now) c.args.pairing)
+told c =
     let a = counts c.args.self.now in
-    let one = label_some a c.args.pairing.one c.in_ok-label.field-0 c.in_ok-label.ensures.value in
-    let other = label_some a c.args.pairing.other c.in_ok-label-2.field-0 c.in_ok-label-2.ensures.value in
-    (named_says a c.args.pairing).1 (one.0, (other.0, c.if-pairing.false))
+    let p = c.args.pairing in
+    let one = label_some a p.one c.in_ok-label.field-0 c.in_ok-label.ensures.value in
+    let other = label_some a p.other c.in_ok-label-2.field-0 c.in_ok-label-2.ensures.value in
+    ((named_says a p).1 (one.0, (other.0, c.if-pairing.false)), c.between.ensures.value ∙ ap₂ between one.1 other.1)
 
 pub returns-clause-below : goal.returns-clause-below
-returns-clause-below c =
-    let a = counts c.args.self.now in
-    let one = label_some a c.args.pairing.one c.in_ok-label.field-0 c.in_ok-label.ensures.value in
-    let other = label_some a c.args.pairing.other c.in_ok-label-2.field-0 c.in_ok-label-2.ensures.value in
-    let is : c.between.result ≡ pair_number a c.args.pairing = c.between.ensures.value ∙ ap₂ between one.1 other.1 in
-    omega (arith, is, pair_below a c.args.pairing (is_named c))
+returns-clause-below c = omega (arith, (told c).1, pair_below (counts c.args.self.now) c.args.pairing (told c).0)
 
 pub returns-clause-only : goal.returns-clause-only
-returns-clause-only c q named = pair_same (counts c.args.self.now) c.args.pairing q (is_named c) named
+returns-clause-only c q named = pair_same (counts c.args.self.now) c.args.pairing q (told c).0 named
