@@ -1,5 +1,5 @@
 -- What the limits of a shape say of its counts and its labels.
-use Rattle.std.proofs.Common.{◌≡◌, ℕ, zero, suc, ◌+◌, ◌-◌, ◌*◌, ◌<◌, ◌≤◌, List, [], ◌∷◌, map, length, get_or, take, sum, sym, ap, ◌∙◌, inl, inr, add-one, arith}
+use Rattle.std.proofs.Common.{◌≡◌, ℕ, zero, suc, ◌+◌, ◌-◌, ◌*◌, ◌<◌, ◌≤◌, List, map, length, get_or, take, sum, sym, ap, ◌∙◌, inl, inr, add-one, arith}
 use Rattle.std.specs.List.{range_with_len, AllByRecursion}
 use Rattle.std.proofs.ByRecursion.{All-from_get_or, All-take, sum_by_le}
 use Rattle.std.proofs.lemmas.List.{get_or_past, ext_get_or, length-take, take_all, take-take}
@@ -97,10 +97,6 @@ pub label_at : (s : Shape) (x : Side) → x.choice < get_or (counts s) x.course 
 label_at s x h =
     let first = firsts_at s x.course (omega (arith, course_in s x.course x.choice h)) in
     (omega (arith, first), omega (arith, label_in (counts s) x h, labels_most (counts s) (limits s)))
-
--- the widest shape's first labels
-pub widest_at : (k : ℕ) → k ≤ 24 → get_or (0 ∷ 8 ∷ 16 ∷ 24 ∷ 32 ∷ 40 ∷ 48 ∷ 56 ∷ 64 ∷ 72 ∷ 80 ∷ 88 ∷ 96 ∷ 104 ∷ 112 ∷ 120 ∷ 128 ∷ 136 ∷ 144 ∷ 152 ∷ 160 ∷ 168 ∷ 176 ∷ 184 ∷ 192 ∷ []) k 0 ≡ 8 * k
-widest_at k h = get_or-map-range_with_len (λ n. 8 * n) 0 25 k k 0 (omega arith) (omega arith)
 
 -- a table of first labels gives back the counts
 pub counts_back : (firsts a : List ℕ) → ((k : ℕ) → k ≤ length a → get_or firsts k 0 ≡ sum (take k a))

@@ -6,3 +6,4 @@ pub mod Limits
 pub mod Pairings
 pub mod Refusals
 pub mod Shapes
+pub mod Texts

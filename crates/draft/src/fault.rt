@@ -1,6 +1,7 @@
 // A refusal together with who raised it.
 ghost use Rattle.std.specs.Prelude.{◌≡◌};
 ghost use Rattle.draft.specs.Faults.{refusal_of, bit_of};
+ghost use Rattle.draft.specs.Texts.{raiser_text};
 
 use crate::refusal::Refusal;
 use std::fmt;
@@ -33,15 +34,32 @@ impl Fault {
             Fault::Line { .. } | Fault::Plan { .. } => None,
         }
     }
+
+    // The word for who refused.
+    fn raiser(self) -> &'static str
+        ensures value { result.now ≡ raiser_text self }
+    {
+        match self {
+            Fault::Sheet { .. } => "sheet",
+            Fault::Line { .. } => "line",
+            Fault::Plan { .. } => "plan",
+        }
+    }
 }
 
 // Who refused, the refusal's number, and the bit where a sheet is at fault.
 impl fmt::Display for Fault {
+    ghost use Rattle.std.specs.Prelude.{Some};
+    ghost use Rattle.draft.specs.Texts.{fault_text};
+
+    ghost output = { λ fault. Some (fault_text fault) };
+
     fn fmt<W: fmt::Write>(&self, f: &mut fmt::Formatter<W>) -> fmt::Result {
-        match self {
-            Fault::Sheet { refusal, bit } => write!(f, "sheet {refusal} {bit}"),
-            Fault::Line { refusal } => write!(f, "line {refusal}"),
-            Fault::Plan { refusal } => write!(f, "plan {refusal}"),
+        let raiser = self.raiser();
+        let refusal = self.refusal();
+        match self.bit() {
+            Some(bit) => write!(f, "{raiser} {refusal} {bit}"),
+            None => write!(f, "{raiser} {refusal}"),
         }
     }
 }

@@ -3,7 +3,7 @@
 #![tactic(auto)]
 
 pub mod fault;
-mod labels;
+pub mod labels;
 pub mod pairing;
 pub mod refusal;
 pub mod shape;

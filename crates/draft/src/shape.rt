@@ -1,8 +1,9 @@
 // The shape of a draft: its courses, by their choice counts.
 ghost use Rattle.std.specs.Prelude.{◌≡◌, ℕ, ◌+◌, ◌<◌, ◌≤◌, ◌↔◌, true, [], ◌∷◌, length, take, sum, IsTrue, IfSome, OnSome, slice_index};
-ghost use Rattle.draft.specs.Labels.{label, label_of, named, pair_number, pair_of, pair_count, widest, OneLabel, OnePair};
+ghost use Rattle.draft.specs.Labels.{label, label_of, named, pair_number, pair_of, pair_count, OneLabel, OnePair};
 ghost use Rattle.draft.specs.Limits.{Limits};
 
+pub use crate::labels::widest_pair;
 use crate::labels::{between, pairs_among};
 use crate::pairing::{Pairing, Side};
 use crate::refusal::Refusal;
@@ -29,15 +30,6 @@ pub struct Shape {
     ghost each: { (k : ℕ) → k < len → (slice_index firsts k + 1 ≤ slice_index firsts (k + 1)) × (slice_index firsts (k + 1) ≤ slice_index firsts k + 8) },
 }
 
-// 24 courses of 8 choices.
-const WIDEST: Shape = Shape {
-    len: MAX_COURSES,
-    firsts: [
-        0, 8, 16, 24, 32, 40, 48, 56, 64, 72, 80, 88, 96, 104, 112, 120, 128, 136, 144, 152, 160,
-        168, 176, 184, 192,
-    ],
-};
-
 // Whether the counts `a` are within the limits of a shape.
 fn within_limits(a: &[u8]) -> bool
     ensures value { IsTrue result ↔ Limits a.now }
@@ -59,16 +51,6 @@ fn firsts_of(a: &[u8]) -> [u8; MAX_COURSES + 1]
         firsts[i + 1] = labels;
     }
     firsts
-}
-
-// The pair number of a pairing in the widest shape, 24 courses of 8 choices, where it joins choices of
-// two of its courses. It tells the pairings of any shape apart, and no shape need be known for it.
-pub fn widest_pair(pairing: Pairing) -> Option<usize>
-    ensures value { result ≡ pair_of widest pairing }
-    ensures below { IfSome result (λ p. p < 18336) }
-    ensures only { OnSome result (OnePair widest pairing) }
-{
-    WIDEST.pair(pairing)
 }
 
 impl<'a> TryFrom<&'a [u8]> for Shape {

@@ -12,11 +12,11 @@ use Rattle.draft.proofs.PairLaws.{pair_same}
 use Rattle.stores.specs.Marks.{unmarked, BitMade, Made}
 
 -- where nothing is marked, the whole draft is left
-pub none_marked : (D : Draft) (a : List ℕ) (n : ℕ) → unmarked D (pair_number a) (replicate n 0) ≡ D
-none_marked D a n = λ t. record {
+pub none_marked : (D : Draft) (number : Pairing → ℕ) (n : ℕ) (xs : List ℕ) → xs ≡ replicate n 0 → unmarked D number xs ≡ D
+none_marked D number n xs z = λ t. record {
   courses = D.courses;
   choices = D.choices;
-  stands = fun_ext (λ p. kept (D.stands p) _ (zeros_not_set n (pair_number a p))) t;
+  stands = fun_ext (λ p. kept (D.stands p) _ (ap (λ l. is_set l (number p)) z ∙ zeros_not_set n (number p))) t;
 }
   where
     kept : (x y : Bool) → y ≡ false → (x && not y) ≡ x

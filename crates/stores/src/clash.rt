@@ -26,15 +26,15 @@ impl Class {
     }
 }
 
-// A shape, with rows for its courses and choices.
+// A shape, with rows for its courses and choices, each lent for a time of its own.
 #[derive(Clone, Copy)]
-pub(crate) struct ShapeRows<'a> {
+pub(crate) struct ShapeRows<'a, 'b, 'c> {
     pub(crate) shape: &'a Shape,
-    pub(crate) courses: &'a [CourseRow],
-    pub(crate) choices: &'a [ChoiceRow],
+    pub(crate) courses: &'b [CourseRow],
+    pub(crate) choices: &'c [ChoiceRow],
 }
 
-impl ShapeRows<'_> {
+impl ShapeRows<'_, '_, '_> {
     // The class of a choice, where there is such a choice, neither of its rows is missing, and its
     // choice row makes a record.
     fn class_of(&self, side: Side) -> Option<Class>

@@ -20,12 +20,12 @@ use layout::rows::{ChoiceRow, CourseRow};
 // The pairings of a shape that the rows allow, less the marked ones. A mark lies at the pairing's
 // number.
 #[derive(Drop)]
-pub struct Rule<'a> {
-    rows: ShapeRows<'a>,
+pub struct Rule<'a, 'b, 'c> {
+    rows: ShapeRows<'a, 'b, 'c>,
     marks: [u8; 2292],
 }
 
-impl<'a> Rule<'a> {
+impl<'a, 'b, 'c> Rule<'a, 'b, 'c> {
     // The opening's check: whether the rows fit the shape, and each choice row makes a record.
     pub fn check(shape: &Shape, courses: &[CourseRow], choices: &[ChoiceRow]) -> Result<(), Refusal>
         ensures cases { RowsTold (counts shape.now) courses.now choices.now result }
@@ -37,7 +37,11 @@ impl<'a> Rule<'a> {
     }
 
     // The store over these rows, with no mark. Nothing is refused.
-    pub fn new(shape: &'a Shape, courses: &'a [CourseRow], choices: &'a [ChoiceRow]) -> Rule<'a>
+    pub fn new(
+        shape: &'a Shape,
+        courses: &'b [CourseRow],
+        choices: &'c [ChoiceRow],
+    ) -> Rule<'a, 'b, 'c>
         ensures shape { result.rows.shape.now ≡ shape.now }
         ensures courses { result.rows.courses.now ≡ courses.now }
         ensures choices { result.rows.choices.now ≡ choices.now }
@@ -55,7 +59,7 @@ impl<'a> Rule<'a> {
     }
 }
 
-impl Store for Rule<'_> {
+impl<'a, 'b, 'c> Store for Rule<'a, 'b, 'c> {
     ghost draft = { λ s. rule_draft (counts s.rows.shape.now) s.rows.courses.now s.rows.choices.now s.marks };
 
     ghost laws = { λ s. rule_lawful s.rows.shape.now s.rows.courses.now s.rows.choices.now s.marks };

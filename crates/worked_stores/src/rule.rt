@@ -2,12 +2,14 @@
 use crate::support::{shape, standing};
 use draft::pairing::Pairing;
 use draft::refusal::Refusal;
+use draft::shape::Shape;
 use draft::store::Store;
 use layout::rows::{ChoiceRow, CourseRow};
 use layout::shapes::shape_of;
 use reader::read::read;
 use std::test::Fail;
 use stores::rule::Rule;
+use stores::what_if::WhatIf;
 
 // A sheet of two courses: both have teacher 5.
 const SHEET: [u8; 8] = [0x11, 0x11, 0x40, 0x48, 0x40, 0xA0, 0x40, 0x00];
@@ -48,6 +50,25 @@ fn allowed(courses: &[CourseRow], choices: &[ChoiceRow]) -> Result<usize, Refusa
     let shape = shape(&[2, 2, 1])?;
     let store = Rule::new(&shape, courses, choices);
     Ok(standing(&store))
+}
+
+// A what-if over a store by rule whose shape and rows are lent for three different times.
+fn lent_apart<'a, 'b, 'c>(
+    shape: &'a Shape,
+    courses: &'b [CourseRow],
+    choices: &'c [ChoiceRow],
+) -> WhatIf<Rule<'a, 'b, 'c>> {
+    WhatIf::lay(Rule::new(shape, courses, choices))
+}
+
+#[test]
+fn a_store_by_rule_takes_loans_of_three_times(rt: HostRuntime) -> Result<(), Fail> {
+    let shape = shape(&[2, 2, 1])?;
+    let courses = courses();
+    let choices = choices();
+    let store = lent_apart(&shape, &courses, &choices);
+    assert_eq!(rt; standing(&store), 12);
+    Ok(())
 }
 
 #[test]
