@@ -1,5 +1,5 @@
 -- Labels and pair numbers are one to one.
-use Rattle.std.proofs.Common.{◌≡◌, ℕ, zero, suc, ◌+◌, ◌-◌, ◌*◌, ◌<◌, ◌≤◌, Bool, true, false, not, ◌&&◌, eqb, ltb, ◌⊎◌, List, get_or, take, Some, None, Decides, sum, sym, refl, ap, ◌∙◌, inl, inr, mul_comm, mul-suc, arith}
+use Rattle.std.proofs.Common.{◌≡◌, ℕ, zero, suc, ◌+◌, ◌-◌, ◌*◌, ◌<◌, ◌≤◌, Bool, true, false, not, ◌&&◌, eqb, ltb, ◌⊎◌, List, get_or, take, Some, None, Decides, sum, sym, refl, ap, ap₂, ◌∙◌, inl, inr, mul_comm, mul-suc, arith}
 use native.Mathlib.Decide.{le_ind}
 use Rattle.std.proofs.lemmas.Bool.{cases_Bool, cases_lt, cases_eq, cases_order, cond-true, cond-false, eq-eqb, ne_eqb, lt-ltb, le-ltb}
 use Rattle.std.proofs.lemmas.Bool.Decides.{Decides-and, Decides-or, Decides-not, Decides-like, Decides-eqb, Decides-ltb, same_from_decides}
@@ -124,6 +124,14 @@ pub named_says : (a : List ℕ) (p : Pairing) → Decides (named a p) ((p.one.ch
 named_says a p =
     Decides-and _ _ (Decides-ltb p.one.choice (get_or a p.one.course 0))
     (Decides-and _ _ (Decides-ltb p.other.choice (get_or a p.other.course 0)) (Decides-not _ (Decides-eqb p.one.course p.other.course)))
+
+-- the labels of choices of two courses make the number of their pairing
+pub labels_pair : (a : List ℕ) (p : Pairing) (u v n : ℕ) → Some u ≡ label_of a p.one → Some v ≡ label_of a p.other → (p.one.course ≡ p.other.course → ⊥)
+    → n ≡ between u v → (named a p ≡ true) × (n ≡ pair_number a p)
+labels_pair a p u v n one other apart is =
+    let x = label_some a p.one u one in
+    let y = label_some a p.other v other in
+    ((named_says a p).1 (x.0, (y.0, apart)), is ∙ ap₂ between x.1 y.1)
 
 -- a pairing has the number of its mirrored name
 pub number_swap : (a : List ℕ) (p : Pairing) → pair_number a p ≡ pair_number a (mirrored p)

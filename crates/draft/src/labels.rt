@@ -27,8 +27,8 @@ pub(crate) fn between(u: usize, v: usize) -> usize
     }
 }
 
-// The label of a choice in the widest shape, where it has such a choice. It is worked out: a what-if
-// asks for it at each question, and a table of first labels takes three times as long.
+// The label of a choice in the widest shape, where it has such a choice. It is worked out and not looked
+// up, since each question to a what-if asks for two.
 fn widest_label(side: Side) -> Option<usize>
     ensures value { result ≡ label_of widest side }
     ensures bound { IfSome result (λ u. u < 192) }

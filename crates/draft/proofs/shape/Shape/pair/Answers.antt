@@ -1,17 +1,12 @@
-use Rattle.std.proofs.Common.{◌≡◌, true, ◌∙◌, ap₂, arith}
-use Rattle.draft.specs.Labels.{named, between, pair_number}
+use Rattle.std.proofs.Common.{◌≡◌, true, arith}
+use Rattle.draft.specs.Labels.{named, pair_number}
 use Rattle.draft.specs.Shapes.{counts}
-use Rattle.draft.proofs.PairLaws.{label_some, named_says, pair_below, pair_same}
+use Rattle.draft.proofs.PairLaws.{labels_pair, pair_below, pair_same}
 use Rattle.draft.proofs.shape.Shape.pair.Goals as goal
 
 -- both labels were answered, so the pairing joins choices of two courses, and has the number answered
 told : (c : goal.After-between) → (named (counts c.args.self.now) c.args.pairing ≡ true) × (c.between.result ≡ pair_number (counts c.args.self.now) c.args.pairing)
-told c =
-    let a = counts c.args.self.now in
-    let p = c.args.pairing in
-    let one = label_some a p.one c.in_ok-label.field-0 c.in_ok-label.ensures.value in
-    let other = label_some a p.other c.in_ok-label-2.field-0 c.in_ok-label-2.ensures.value in
-    ((named_says a p).1 (one.0, (other.0, c.if-pairing.false)), c.between.ensures.value ∙ ap₂ between one.1 other.1)
+told c = labels_pair (counts c.args.self.now) c.args.pairing _ _ _ c.in_ok-label.ensures.value c.in_ok-label-2.ensures.value c.if-pairing.false c.between.ensures.value
 
 pub returns-clause-below : goal.returns-clause-below
 returns-clause-below c = omega (arith, (told c).1, pair_below (counts c.args.self.now) c.args.pairing (told c).0)
